@@ -1,0 +1,3 @@
+-- What the contracts of `bits` cite.
+pub mod Fields
+pub mod Laws

@@ -1,0 +1,2 @@
+-- What the fixed lists of both readings rest on.
+pub mod Fixed

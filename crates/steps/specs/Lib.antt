@@ -1,0 +1,5 @@
+pub mod Steps
+pub mod Leaves
+pub mod Laws
+pub mod Answers
+pub mod One

@@ -1,0 +1,3 @@
+-- What the contracts of `timing` cite.
+pub mod Axis
+pub mod Rest
