@@ -1,0 +1,6 @@
+-- What the contracts of `crate_timings` cite.
+pub mod Established
+pub mod Pairs
+pub mod Answers
+pub mod Laws
+pub mod Lengths

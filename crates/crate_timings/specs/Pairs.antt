@@ -1,0 +1,39 @@
+-- Standard timings: pairs of bytes, listed in a fixed list with a length.
+use Prim.Native.Nat.{ℕ, zero, suc, _+_, _*_}
+use mathlib.Core.Bool.{_&&_}
+use lib.Dec.{eqb}
+use Rattle.bits.specs.Fields.{digits}
+use Rattle.steps.specs.Steps.{Steps, done, _>>=_, _>>_, pick}
+use Rattle.steps.specs.Leaves.{byte}
+use Rattle.crate_record.specs.Single.{ratioOf}
+use Rattle.crate_record.specs.Lists.{pushStandard}
+use Rattle.crate_record.specs.declared.StandardTiming.{StandardTiming}
+use Rattle.crate_record.specs.declared.StandardTimings.{StandardTimings}
+use Rattle.crate_timings.specs.declared.Pair.{Pair}
+use Rattle.crate_timings.specs.declared.Pair.the-variants.{Skipped, Listed}
+
+unfoldable pub standardOf : ℕ → ℕ → StandardTiming
+standardOf low high =
+    record { ratio = ratioOf (digits high 6 2); width = (low + 31) * 8; rate = digits high 0 6 + 60 }
+
+-- 01 01 is skipped
+unfoldable pub pairOf : ℕ → ℕ → Pair
+pairOf low high = pick (eqb low 1 && eqb high 1) Skipped (Listed (standardOf low high))
+
+unfoldable pub pair : Steps Pair
+pair = do
+  low ← byte
+  high ← byte
+  done (pairOf low high)
+
+-- the list after a pair
+abbrev pub listed : StandardTimings → Pair → StandardTimings
+listed a Skipped = a
+listed a (Listed t) = pushStandard a t
+
+-- n pairs
+unfoldable pub pairs : ℕ → StandardTimings → Steps StandardTimings
+pairs zero a = done a
+pairs (suc n) a = do
+  p ← pair
+  pairs n (listed a p)

@@ -1,0 +1,181 @@
+// The established flags and the standard timings: fixed lists with a length.
+use crate_record::EstablishedTimings;
+use crate_record::StandardTiming;
+use crate_record::StandardTimings;
+use steps::ByteRead;
+use steps::Cursor;
+use steps::End;
+use steps::Refusal;
+use steps::TwoRead;
+use steps::WordRead;
+ghost use mathlib.Core.Path.{_≡_};
+ghost use Rattle.steps.specs.Steps.{run};
+ghost use Rattle.steps.specs.Leaves.{Beside};
+ghost use Rattle.crate_record.specs.Lists.{noFlags, noStandard};
+ghost use Rattle.crate_timings.specs.Established.{flag, establishedOf, established};
+ghost use Rattle.crate_timings.specs.Pairs.{standardOf, pairOf, pair, pairs};
+ghost use Rattle.crate_timings.specs.Answers.{ofPair};
+
+// The list, and beside it how its reading ended; empty where it was refused.
+pub struct EstablishedRead {
+    pub list: EstablishedTimings,
+    pub end: End,
+}
+
+// What two bytes say: 01 01 is skipped.
+pub enum Pair {
+    Skipped,
+    Listed(StandardTiming),
+}
+
+pub enum PairRead {
+    Got(Pair, Cursor),
+    Refused(Refusal),
+}
+
+pub struct PairsRead {
+    pub list: StandardTimings,
+    pub end: End,
+}
+
+fn no_flags() -> EstablishedTimings
+    ensures { λ r. ⌜ r ≡ noFlags ⌝ }
+{
+    EstablishedTimings {
+        items: [0u8; 17],
+        len: 0,
+    }
+}
+
+// n is listed where its flag is on.
+fn listed(l: EstablishedTimings, on: bool, n: u8) -> EstablishedTimings
+    ensures { λ r. ⌜ r ≡ flag on n l ⌝ }
+{
+    if on {
+        let len = l.len;
+        if len < 17 {
+            let mut items = l.items;
+            items[len] = n;
+            return EstablishedTimings {
+                items,
+                len: len + 1,
+            };
+        }
+    }
+    l
+}
+
+pub fn established_of(ft: u16, last: u8) -> EstablishedTimings
+    ensures { λ r. ⌜ r ≡ establishedOf ft last ⌝ }
+{
+    let mut l = no_flags();
+    l = listed(l, bits::is_set16(ft, 0), 0);
+    l = listed(l, bits::is_set16(ft, 1), 1);
+    l = listed(l, bits::is_set16(ft, 2), 2);
+    l = listed(l, bits::is_set16(ft, 3), 3);
+    l = listed(l, bits::is_set16(ft, 4), 4);
+    l = listed(l, bits::is_set16(ft, 5), 5);
+    l = listed(l, bits::is_set16(ft, 6), 6);
+    l = listed(l, bits::is_set16(ft, 7), 7);
+    l = listed(l, bits::is_set16(ft, 8), 8);
+    l = listed(l, bits::is_set16(ft, 9), 9);
+    l = listed(l, bits::is_set16(ft, 10), 10);
+    l = listed(l, bits::is_set16(ft, 11), 11);
+    l = listed(l, bits::is_set16(ft, 12), 12);
+    l = listed(l, bits::is_set16(ft, 13), 13);
+    l = listed(l, bits::is_set16(ft, 14), 14);
+    l = listed(l, bits::is_set16(ft, 15), 15);
+    listed(l, bits::is_set(last, 7), 16)
+}
+
+pub fn take_established(c: Cursor, s: &[u8]) -> EstablishedRead
+    ensures { λ r. ⌜ Beside noFlags (r .list) (r .end) (run established (now (s .entry)) (c .at)) ⌝ }
+{
+    match c.word(s) {
+        WordRead::Refused(f) => EstablishedRead {
+            list: no_flags(),
+            end: End::Refused(f),
+        },
+        WordRead::Got(ft, next) => match next.byte(s) {
+            ByteRead::Refused(f) => EstablishedRead {
+                list: no_flags(),
+                end: End::Refused(f),
+            },
+            ByteRead::Got(last, c) => EstablishedRead {
+                list: established_of(ft, last),
+                end: End::At(c),
+            },
+        },
+    }
+}
+
+pub fn standard_of(low: u8, high: u8) -> StandardTiming
+    ensures { λ r. ⌜ r ≡ standardOf low high ⌝ }
+{
+    StandardTiming {
+        ratio: crate_record::ratio_of(bits::digits(high, 6, 2)),
+        width: (low as u16 + 31) * 8,
+        rate: bits::digits(high, 0, 6) as u16 + 60,
+    }
+}
+
+pub fn pair_of(low: u8, high: u8) -> Pair
+    ensures { λ r. ⌜ r ≡ pairOf low high ⌝ }
+{
+    if low == 1 && high == 1 {
+        Pair::Skipped
+    } else {
+        Pair::Listed(standard_of(low, high))
+    }
+}
+
+pub fn take_pair(c: Cursor, s: &[u8]) -> PairRead
+    ensures { λ r. ⌜ ofPair r ≡ run pair (now (s .entry)) (c .at) ⌝ }
+{
+    match c.two(s) {
+        TwoRead::Refused(f) => PairRead::Refused(f),
+        TwoRead::Got(low, high, next) => PairRead::Got(pair_of(low, high), next),
+    }
+}
+
+pub fn no_standard() -> StandardTimings
+    ensures { λ r. ⌜ r ≡ noStandard ⌝ }
+{
+    StandardTimings {
+        items: [crate_record::BLANK_STANDARD; 26],
+        len: 0,
+    }
+}
+
+// The list is a local array that this function alone fills: no call takes or returns it, but for the answer.
+pub fn take_pairs(c: Cursor, s: &[u8], n: usize) -> PairsRead
+    ensures { λ r. ⌜ Beside noStandard (r .list) (r .end) (run (pairs n noStandard) (now (s .entry)) (c .at)) ⌝ }
+{
+    let mut items = [crate_record::BLANK_STANDARD; 26];
+    let mut len = 0;
+    let mut c = c;
+    let mut i = 0;
+    while i < n {
+        let p = match take_pair(c, s) {
+            PairRead::Refused(f) => return PairsRead {
+                list: no_standard(),
+                end: End::Refused(f),
+            },
+            PairRead::Got(p, next) => {
+                c = next;
+                p
+            }
+        };
+        if let Pair::Listed(t) = p {
+            if len < 26 {
+                items[len] = t;
+                len += 1;
+            }
+        }
+        i += 1;
+    }
+    PairsRead {
+        list: StandardTimings { items, len },
+        end: End::At(c),
+    }
+}
