@@ -77,7 +77,7 @@ input = do
   done (inputOf val)
 
 unfoldable pub sizeOf : ℕ → ℕ → MaxSize
-sizeOf w h = pick (eqb w 0) Size.None (pick (eqb h 0) Size.None (Size.Some (record { width = whole w; height = whole h })))
+sizeOf w h = pick (eqb w 0 || eqb h 0) Size.None (Size.Some (record { width = whole w; height = whole h }))
 
 unfoldable pub gammaFrom : ℕ → Gamma
 gammaFrom val = pick (eqb val 0xff) G.None (G.Some (gammaOf val))

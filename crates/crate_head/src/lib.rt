@@ -195,7 +195,10 @@ pub fn take_version(c: Cursor, s: &[u8]) -> VersionRead
 {
     match c.two(s) {
         TwoRead::Refused(f) => VersionRead::Refused(f),
-        TwoRead::Got(version, revision, next) => VersionRead::Got(Version { version, revision }, next),
+        TwoRead::Got(version, revision, next) => VersionRead::Got(
+            Version { version, revision },
+            next,
+        ),
     }
 }
 

@@ -2,7 +2,7 @@
 use Prim.Native.Nat.{ℕ, suc, _+_, _-_, _≤_, _<_}
 use native.Mathlib.Omega.{arith}
 use mathlib.Core.Path.{_≡_, refl, sym, _∙_, ap, subst}
-use mathlib.Core.Bool.{Bool, true, false}
+use mathlib.Core.Bool.{Bool, true, false, _||_}
 use mathlib.Core.List.{List}
 use lib.Dec.{ltb}
 use lib.ListN.{length, getD}
@@ -85,6 +85,16 @@ picked t a b e = ap (λ (u : Bool). pick u a b) e
 
 pub picked-not : {A : Type 0} (t : Bool) (a b : A) → t ≡ false → pick t a b ≡ b
 picked-not t a b e = ap (λ (u : Bool). pick u a b) e
+
+-- which of two tests holds, as nested tests in the code find it
+pub either-first : (a b : Bool) → a ≡ true → (a || b) ≡ true
+either-first a b e = ap (λ (t : Bool). t || b) e
+
+pub either-second : (a b : Bool) → a ≡ false → b ≡ true → (a || b) ≡ true
+either-second a b e h = ap (λ (t : Bool). t || b) e ∙ h
+
+pub neither : (a b : Bool) → a ≡ false → b ≡ false → (a || b) ≡ false
+neither a b e h = ap (λ (t : Bool). t || b) e ∙ h
 
 -- turns that are left: one more, or none
 pub more : (n i : ℕ) → i < n → n - i ≡ suc (n - (i + 1))

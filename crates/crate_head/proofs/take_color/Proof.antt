@@ -14,20 +14,26 @@ From b = SoFar color (now (b .args .s)) (b .args .c .at)
 
 abbrev after-rg : (c : tie.After-rg) → From (c .before .before .before .before)
 unfolding color
-after-rg c = (_,
-    step-two _ _ _ (c .before .before .two .ensures) (c .rg .given .1))
+after-rg c = (
+  _,
+  step-two _ _ _ (c .before .before .two .ensures) (c .rg .given .1),
+)
 
 abbrev after-rx : (c : tie.After-rx) → From (c .before .before .before .before .before .before .before .before)
 unfolding color
-after-rx c = (_,
-    after-rg (c .before .before .before .before) .1
-    ∙ step-four _ _ _ (c .before .before .four .ensures) (c .rx .given .1))
+after-rx c = (
+  _,
+  after-rg (c .before .before .before .before) .1
+      ∙ step-four _ _ _ (c .before .before .four .ensures) (c .rx .given .1),
+)
 
 abbrev after-bx : (c : tie.After-bx) → From (c .before .before .before .before .before .before .before .before .before .before .before .before)
 unfolding color
-after-bx c = (_,
-    after-rx (c .before .before .before .before) .1
-    ∙ step-four _ _ _ (c .before .before .four2 .ensures) (c .bx .given .1))
+after-bx c = (
+  _,
+  after-rx (c .before .before .before .before) .1
+      ∙ step-four _ _ _ (c .before .before .four2 .ensures) (c .bx .given .1),
+)
 
 returns : tie.Need-returns
 unfolding color

@@ -13,8 +13,10 @@ From b = SoFar date (now (b .args .s)) (b .args .c .at)
 
 abbrev after-week : (c : tie.After-week) → From (c .before .before .before .before)
 unfolding date
-after-week c = (_,
-    step-two _ _ _ (c .before .before .two .ensures) (c .week .given .1))
+after-week c = (
+  _,
+  step-two _ _ _ (c .before .before .two .ensures) (c .week .given .1),
+)
 
 returns : tie.Need-returns
 unfolding date

@@ -16,26 +16,34 @@ From b = SoFar display (now (b .args .s)) (b .args .c .at)
 
 abbrev after-i : (c : tie.After-i) → From (c .before .before .before .before)
 unfolding display
-after-i c = (_,
-    step ofInput input _ _ _ (c .before .before .take-input .ensures) (c .i .given .1))
+after-i c = (
+  _,
+  step ofInput input _ _ _ (c .before .before .take-input .ensures) (c .i .given .1),
+)
 
 abbrev after-w : (c : tie.After-w) → From (c .before .before .before .before .before .before .before .before)
 unfolding display
-after-w c = (_,
-    after-i (c .before .before .before .before) .1
-    ∙ step-two _ _ _ (c .before .before .two .ensures) (c .w .given .1))
+after-w c = (
+  _,
+  after-i (c .before .before .before .before) .1
+      ∙ step-two _ _ _ (c .before .before .two .ensures) (c .w .given .1),
+)
 
 abbrev after-g : (c : tie.After-g) → From (c .before .before .before .before .before .before .before .before .before .before .before .before .before)
 unfolding display
-after-g c = (_,
-    after-w (c .before .before .before .before .before) .1
-    ∙ step ofByte byte _ _ _ (c .before .before .byte .ensures) (c .g .given .1))
+after-g c = (
+  _,
+  after-w (c .before .before .before .before .before) .1
+      ∙ step ofByte byte _ _ _ (c .before .before .byte .ensures) (c .g .given .1),
+)
 
 abbrev after-dpms : (c : tie.After-dpms) → From (c .before .before .before .before .before .before .before .before .before .before .before .before .before .before .before .before .before .before)
 unfolding display
-after-dpms c = (_,
-    after-g (c .before .before .before .before .before) .1
-    ∙ step ofDpms dpms _ _ _ (c .before .before .take-dpms .ensures) (c .dpms .given .1))
+after-dpms c = (
+  _,
+  after-g (c .before .before .before .before .before) .1
+      ∙ step ofDpms dpms _ _ _ (c .before .before .take-dpms .ensures) (c .dpms .given .1),
+)
 
 returns : tie.Need-returns
 unfolding display

@@ -14,32 +14,42 @@ From b = SoFar front (now (b .args .s)) (b .args .c .at)
 
 abbrev after-next : (c : tie.After-next) → From (c .before .before .before .before)
 unfolding front
-after-next c = (_,
-    step ofHeader header _ _ _ (c .before .before .take-header .ensures) (c .next .given .1))
+after-next c = (
+  _,
+  step ofHeader header _ _ _ (c .before .before .take-header .ensures) (c .next .given .1),
+)
 
 abbrev after-p : (c : tie.After-p) → From (c .before .before .before .before .before .before .before .before)
 unfolding front
-after-p c = (_,
-    after-next (c .before .before .before .before) .1
-    ∙ step ofProduct product _ _ _ (c .before .before .take-product .ensures) (c .p .given .1))
+after-p c = (
+  _,
+  after-next (c .before .before .before .before) .1
+      ∙ step ofProduct product _ _ _ (c .before .before .take-product .ensures) (c .p .given .1),
+)
 
 abbrev after-v : (c : tie.After-v) → From (c .before .before .before .before .before .before .before .before .before .before .before .before)
 unfolding front
-after-v c = (_,
-    after-p (c .before .before .before .before) .1
-    ∙ step ofVersion version _ _ _ (c .before .before .take-version .ensures) (c .v .given .1))
+after-v c = (
+  _,
+  after-p (c .before .before .before .before) .1
+      ∙ step ofVersion version _ _ _ (c .before .before .take-version .ensures) (c .v .given .1),
+)
 
 abbrev after-d : (c : tie.After-d) → From (c .before .before .before .before .before .before .before .before .before .before .before .before .before .before .before .before)
 unfolding front
-after-d c = (_,
-    after-v (c .before .before .before .before) .1
-    ∙ step ofDisplay display _ _ _ (c .before .before .take-display .ensures) (c .d .given .1))
+after-d c = (
+  _,
+  after-v (c .before .before .before .before) .1
+      ∙ step ofDisplay display _ _ _ (c .before .before .take-display .ensures) (c .d .given .1),
+)
 
 abbrev after-basic : (c : tie.After-basic) → From (c .before .before .before .before .before .before .before .before .before .before .before .before .before .before .before .before .before .before .before .before)
 unfolding front
-after-basic c = (_,
-    after-d (c .before .before .before .before) .1
-    ∙ step ofColor color _ _ _ (c .before .before .take-color .ensures) (c .basic .given .1))
+after-basic c = (
+  _,
+  after-d (c .before .before .before .before) .1
+      ∙ step ofColor color _ _ _ (c .before .before .take-color .ensures) (c .basic .given .1),
+)
 
 returns : tie.Need-returns
 unfolding front

@@ -15,26 +15,34 @@ From b = SoFar header (now (b .args .s)) (b .args .c .at)
 
 abbrev after-l : (c : tie.After-l) → From (c .before .before .before .before)
 unfolding header
-after-l c = (_,
-    step ofLong long _ _ _ (c .before .before .long .ensures) (c .l .given .1))
+after-l c = (
+  _,
+  step ofLong long _ _ _ (c .before .before .long .ensures) (c .l .given .1),
+)
 
 abbrev after-first : (c : tie.Else1) → From (c .before .before .before .before .before .before)
 unfolding header
-after-first c = (_,
-    after-l (c .before .before) .1
-    ∙ passed _ 2 _ _ _ (eq-eqb _ _ (c .if1 .left)))
+after-first c = (
+  _,
+  after-l (c .before .before) .1
+      ∙ passed _ 2 _ _ _ (eq-eqb _ _ (c .if1 .left)),
+)
 
 abbrev after-l2 : (c : tie.After-l2) → From (c .before .before .before .before .before .before .before .before .before)
 unfolding header
-after-l2 c = (_,
-    after-first (c .before .before .before) .1
-    ∙ step ofLong long _ _ _ (c .before .before .long2 .ensures) (c .l2 .given .1))
+after-l2 c = (
+  _,
+  after-first (c .before .before .before) .1
+      ∙ step ofLong long _ _ _ (c .before .before .long2 .ensures) (c .l2 .given .1),
+)
 
 abbrev after-second : (c : tie.Else2) → From (c .before .before .before .before .before .before .before .before .before .before .before)
 unfolding header
-after-second c = (_,
-    after-l2 (c .before .before) .1
-    ∙ passed _ 2 _ _ _ (eq-eqb _ _ (c .if2 .left)))
+after-second c = (
+  _,
+  after-l2 (c .before .before) .1
+      ∙ passed _ 2 _ _ _ (eq-eqb _ _ (c .if2 .left)),
+)
 
 returns : tie.Need-returns
 unfolding header

@@ -15,8 +15,10 @@ From b = SoFar input (now (b .args .s)) (b .args .c .at)
 
 abbrev after-val : (c : tie.After-val) → From (c .before .before .before .before)
 unfolding input
-after-val c = (_,
-    step ofByte byte _ _ _ (c .before .before .byte .ensures) (c .val .given .1))
+after-val c = (
+  _,
+  step ofByte byte _ _ _ (c .before .before .byte .ensures) (c .val .given .1),
+)
 
 returns : tie.Need-returns
 unfolding input

@@ -15,8 +15,10 @@ From b = SoFar maker (now (b .args .s)) (b .args .c .at)
 
 abbrev after-k : (c : tie.After-k) → From (c .before .before .before .before)
 unfolding maker
-after-k c = (_,
-    step ofWord word _ _ _ (c .before .before .word .ensures) (c .k .given .1))
+after-k c = (
+  _,
+  step ofWord word _ _ _ (c .before .before .word .ensures) (c .k .given .1),
+)
 
 returns : tie.Need-returns
 unfolding maker

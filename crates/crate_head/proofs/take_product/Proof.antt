@@ -15,26 +15,34 @@ From b = SoFar product (now (b .args .s)) (b .args .c .at)
 
 abbrev after-m : (c : tie.After-m) → From (c .before .before .before .before)
 unfolding product
-after-m c = (_,
-    step ofMaker maker _ _ _ (c .before .before .take-maker .ensures) (c .m .given .1))
+after-m c = (
+  _,
+  step ofMaker maker _ _ _ (c .before .before .take-maker .ensures) (c .m .given .1),
+)
 
 abbrev after-w : (c : tie.After-w) → From (c .before .before .before .before .before .before .before .before)
 unfolding product
-after-w c = (_,
-    after-m (c .before .before .before .before) .1
-    ∙ step ofWord word _ _ _ (c .before .before .word .ensures) (c .w .given .1))
+after-w c = (
+  _,
+  after-m (c .before .before .before .before) .1
+      ∙ step ofWord word _ _ _ (c .before .before .word .ensures) (c .w .given .1),
+)
 
 abbrev after-l : (c : tie.After-l) → From (c .before .before .before .before .before .before .before .before .before .before .before .before)
 unfolding product
-after-l c = (_,
-    after-w (c .before .before .before .before) .1
-    ∙ step ofLong long _ _ _ (c .before .before .long .ensures) (c .l .given .1))
+after-l c = (
+  _,
+  after-w (c .before .before .before .before) .1
+      ∙ step ofLong long _ _ _ (c .before .before .long .ensures) (c .l .given .1),
+)
 
 abbrev after-date : (c : tie.After-date) → From (c .before .before .before .before .before .before .before .before .before .before .before .before .before .before .before .before)
 unfolding product
-after-date c = (_,
-    after-l (c .before .before .before .before) .1
-    ∙ step ofDate date _ _ _ (c .before .before .take-date .ensures) (c .date .given .1))
+after-date c = (
+  _,
+  after-l (c .before .before .before .before) .1
+      ∙ step ofDate date _ _ _ (c .before .before .take-date .ensures) (c .date .given .1),
+)
 
 returns : tie.Need-returns
 unfolding product

@@ -13,8 +13,10 @@ From b = SoFar version (now (b .args .s)) (b .args .c .at)
 
 abbrev after-version : (c : tie.After-version) → From (c .before .before .before .before)
 unfolding version
-after-version c = (_,
-    step-two _ _ _ (c .before .before .two .ensures) (c .version .given .1))
+after-version c = (
+  _,
+  step-two _ _ _ (c .before .before .two .ensures) (c .version .given .1),
+)
 
 returns : tie.Need-returns
 unfolding version

@@ -14,8 +14,10 @@ From b = SoFar pair (now (b .args .s)) (b .args .c .at)
 
 abbrev after-low : (c : tie.After-low) → From (c .before .before .before .before)
 unfolding pair
-after-low c = (_,
-    step-two _ _ _ (c .before .before .two .ensures) (c .low .given .1))
+after-low c = (
+  _,
+  step-two _ _ _ (c .before .before .two .ensures) (c .low .given .1),
+)
 
 returns : tie.Need-returns
 unfolding pair

@@ -1,0 +1,13 @@
+-- `crate_detailed::sync_of` meets its contract: by what its callees ensure. Assumes nothing.
+use Rattle.crate_detailed.specs.Detailed.{syncOf}
+use borrow.Author.Needs.{needs}
+use Rattle.crate_detailed.proofs.sync_of.Statement.{statement}
+use Rattle.crate_detailed.proofs.sync_of.Tie as tie
+
+returns : tie.Need-returns
+unfolding syncOf
+returns c = cc
+
+pub sync-of-spec : {M : Type 1} → statement M
+sync-of-spec =
+    tie.close (tie.spec (search needs) (search needs) (search needs) (search needs) returns)

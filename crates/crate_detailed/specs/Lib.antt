@@ -1,0 +1,5 @@
+-- What the contracts of `crate_detailed` cite.
+pub mod Detailed
+pub mod Answers
+pub mod Laws
+pub mod Lengths
