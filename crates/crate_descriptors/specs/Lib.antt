@@ -2,3 +2,4 @@
 pub mod Descriptors
 pub mod Answers
 pub mod Laws
+pub mod Lengths

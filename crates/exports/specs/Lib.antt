@@ -1,0 +1,2 @@
+-- What the contracts of `exports` cite.
+pub mod Numbers
