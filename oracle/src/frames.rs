@@ -112,9 +112,8 @@ impl Dice {
 }
 
 const SPECIMEN: &[u8; 128] = include_bytes!("../../docs/specimen.bin");
-const TELLING: [u8; 20] = [
-    0x00, 0x01, 0x02, 0x0a, 0x0f, 0x10, 0x11, 0x20, 0x21, 0x40, 0x7f, 0x80, 0xc0, 0xf9, 0xfa, 0xfb, 0xfc, 0xfd, 0xfe, 0xff,
-];
+const TELLING: [u8; 20] =
+    [0x00, 0x01, 0x02, 0x0a, 0x0f, 0x10, 0x11, 0x20, 0x21, 0x40, 0x7f, 0x80, 0xc0, 0xf9, 0xfa, 0xfb, 0xfc, 0xfd, 0xfe, 0xff];
 
 // ---- blocks of slots
 
@@ -329,12 +328,10 @@ fn short_or_long(i: u64, dice: &mut Dice) -> Vec<u8> {
 /// Front porch and sync together one more than the blanking, equal to it, and one less, on each axis and in each slot.
 fn porch(i: u64, dice: &mut Dice) -> Vec<u8> {
     let mut t = Timing::good(dice);
-    match i / 36 {
-        0 => { t.front = [1023, 63]; t.sync = [1023, 63]; }
-        1 => { t.front = [0, 0]; t.sync = [1, 1]; }
-        2 => { t.front = [1, 1]; t.sync = [0, 0]; }
-        3 => { t.front = [0, 0]; t.sync = [1023, 63]; }
-        _ => {}
+    let ends = [([1023, 63], [1023, 63]), ([0, 0], [1, 1]), ([1, 1], [0, 0]), ([0, 0], [1023, 63])];
+    if let Some((front, sync)) = ends.get(i as usize / 36) {
+        t.front = *front;
+        t.sync = *sync;
     }
     let blanking = |axis: usize, more: u64| (t.front[axis] + t.sync[axis] + more as u16).saturating_sub(1);
     t.blanking = [blanking(0, i / 12 % 3), blanking(1, i / 4 % 3)];
