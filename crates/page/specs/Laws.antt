@@ -109,6 +109,12 @@ pub each-more : {A : Type 0} (f : A → List ℕ) (s : List A) (i : ℕ) (d : A)
 unfolding each
 each-more f s i d h = rw (← take-more s i d h, each-append, append-nil)
 
+-- a turn of a loop that appends f of one element after the other
+pub turn : {A : Type 0} {p q : Page} (f : A → List ℕ) (s : List A) (i : ℕ) (d : A) → i < length s
+    → Chain p (each f (take i s) ∷ f (getD s i d) ∷ []) q → q ≡ p ▷ each f (take (i + 1) s)
+unfolding flat
+turn f s i d h c = rw (← each-more f s i d h) (rw append-nil at (line c))
+
 take-min : (l : List ℕ) (n : ℕ) → take (min n (length l)) l ≡ take n l
 take-min l zero = rw (zero-min (length l))
 take-min [] (suc n) = rw (min-zero (suc n))
