@@ -66,7 +66,7 @@ detailedLines l = each detailedLine (take (min (l .len) 4) (l .items))
 unfoldable pub textLine : List ℕ → Span → List ℕ
 textLine word d = flat (word ∷ field (d .start) ∷ field (d .len) ∷ newline ∷ [])
 
--- a number, and a run of the input s, of which a slot has 13 bytes at most
+-- a tag or a kind, and a run of the input s in hexadecimal; a slot holds no run above 13 bytes, and no more are shown
 unfoldable pub raw : List ℕ → ℕ → Span → List ℕ
 raw s n d = flat (field8 n ∷ space ∷ each hexOf2 (take (min (d .len) 13) (drop (d .start) s)) ∷ [])
 
@@ -88,6 +88,7 @@ descriptorLine s (MonitorName d) = textLine (text "name") d
 descriptorLine s (Undefined tag d) = flat (text "undefined" ∷ raw s tag d ∷ newline ∷ [])
 descriptorLine s (ManufacturerDefined tag d) = flat (text "maker" ∷ raw s tag d ∷ newline ∷ [])
 
+-- of an element of the list
 unfoldable pub heldLine : List ℕ → Held → List ℕ
 heldLine s h = descriptorLine s (h .descriptor)
 
