@@ -1,0 +1,44 @@
+-- `crate_lines::product_line` meets its contract. Assumes nothing.
+use borrow.Author.Needs.{needs}
+use Rattle.page.specs.Laws.{_so_, done, line}
+use Rattle.crate_lines.specs.Lines.{productLine}
+use Rattle.crate_lines.proofs.product_line.Statement.{statement}
+use Rattle.crate_lines.proofs.product_line.Tie as tie
+
+returns : tie.Need-returns
+unfolding productLine
+returns c =
+    let c8 = c .before .before in
+    let c7 = c8 .before .before in
+    let c6 = c7 .before .before in
+    let c5 = c6 .before .before in
+    let c4 = c5 .before .before in
+    let c3 = c4 .before .before in
+    let c2 = c3 .before .before in
+    let c1 = c2 .before .before in
+    line (
+    c1 .bytes .ensures so
+    c2 .field8 .ensures so
+    c3 .field82 .ensures so
+    c4 .field83 .ensures so
+    c5 .field16 .ensures so
+    c6 .field32 .ensures so
+    c7 .field84 .ensures so
+    c8 .field162 .ensures so
+    c .newline .ensures so done)
+
+pub product-line-spec : {M : Type 1} → statement M
+product-line-spec =
+    tie.close
+    (tie.spec
+    (search needs)
+    (search needs)
+    (search needs)
+    (search needs)
+    (search needs)
+    (search needs)
+    (search needs)
+    (search needs)
+    (search needs)
+    (search needs)
+    returns)

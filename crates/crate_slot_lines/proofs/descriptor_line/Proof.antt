@@ -1,0 +1,70 @@
+-- `crate_slot_lines::descriptor_line` meets its contract. Assumes nothing.
+use borrow.Author.Needs.{needs}
+use Rattle.page.specs.Laws.{_so_, done, line}
+use Rattle.crate_slot_lines.specs.Lines.{descriptorLine}
+use Rattle.crate_slot_lines.proofs.descriptor_line.Statement.{statement}
+use Rattle.crate_slot_lines.proofs.descriptor_line.Tie as tie
+
+returns : tie.Need-returns
+unfolding descriptorLine
+returns c = rw (c .before .before .before .before .t .given .1) (c .text-line .ensures)
+
+returns-2 : tie.Need-returns-2
+unfolding descriptorLine
+returns-2 c = rw (c .before .before .before .before .t2 .given .1) (c .text-line2 .ensures)
+
+returns-3 : tie.Need-returns-3
+unfolding descriptorLine
+returns-3 c = rw (c .before .before .before .t3 .given .1) (c .range-line .ensures)
+
+returns-4 : tie.Need-returns-4
+unfolding descriptorLine
+returns-4 c = rw (c .before .before .before .before .t4 .given .1) (c .text-line3 .ensures)
+
+returns-5 : tie.Need-returns-5
+unfolding descriptorLine
+returns-5 c =
+    let c2 = c .before .before in
+    let c1 = c2 .before .before in
+    rw (c1 .before .before .before .before .t5 .given .1)
+    (line (c1 .bytes .ensures so c2 .raw .ensures so c .newline .ensures so done))
+
+returns-6 : tie.Need-returns-6
+unfolding descriptorLine
+returns-6 c =
+    let c2 = c .before .before in
+    let c1 = c2 .before .before in
+    rw (c1 .before .before .before .before .t6 .given .1)
+    (line (c1 .bytes2 .ensures so c2 .raw2 .ensures so c .newline2 .ensures so done))
+
+pub descriptor-line-spec : {M : Type 1} → statement M
+descriptor-line-spec =
+    tie.close
+    (tie.spec
+    (search needs)
+    (search needs)
+    (search needs)
+    (search needs)
+    (search needs)
+    (search needs)
+    (search needs)
+    (search needs)
+    (search needs)
+    (search needs)
+    (search needs)
+    (search needs)
+    (search needs)
+    (search needs)
+    (search needs)
+    (search needs)
+    (search needs)
+    (search needs)
+    (search needs)
+    (search needs)
+    (search needs)
+    returns
+    returns-2
+    returns-3
+    returns-4
+    returns-5
+    returns-6)
