@@ -1,3 +1,2 @@
--- The crate reading: its definition, and demand 3 of it.
+-- What the contract of the crate reading cites.
 pub mod Reading
-pub mod Demands

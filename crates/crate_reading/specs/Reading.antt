@@ -1,6 +1,7 @@
 -- The whole of the crate reading, as `EDID::parse` of the source has it: part after part, then one extension count.
 use Prim.Native.Nat.{ℕ}
-use Rattle.steps.specs.Steps.{Steps, done, _>>=_, _>>_}
+use mathlib.Core.List.{List}
+use Rattle.steps.specs.Steps.{Steps, done, _>>=_, _>>_, Outcome, run}
 use Rattle.steps.specs.Leaves.{byte}
 use Rattle.crate_record.specs.Lists.{noStandard}
 use Rattle.crate_record.specs.declared.EDID.{EDID}
@@ -33,3 +34,7 @@ reading = do
   l ← descriptors eight
   n ← byte
   done (edidOf f e l n)
+
+-- what the reading answers on the bytes s
+abbrev pub answer : List ℕ → Outcome EDID
+answer s = run reading s 0

@@ -12,10 +12,9 @@ use steps::Cursor;
 use steps::End;
 use steps::Refusal;
 ghost use mathlib.Core.Path.{_≡_};
-ghost use Rattle.steps.specs.Steps.{run};
 ghost use Rattle.steps.specs.Leaves.{Beside};
 ghost use Rattle.crate_record.specs.Filler.{blank};
-ghost use Rattle.crate_reading.specs.Reading.{edidOf, reading};
+ghost use Rattle.crate_reading.specs.Reading.{edidOf, answer};
 
 fn refuse(f: Refusal) -> Reading
     ensures { λ r. ⌜ (r .edid ≡ blank) × (r .end ≡ End.Refused f) ⌝ }
@@ -54,7 +53,7 @@ fn edid_of(front: Front, established: EstablishedTimings, lists: Lists, extensio
 }
 
 pub fn read(s: &[u8]) -> Reading
-    ensures { λ r. ⌜ Beside blank (r .edid) (r .end) (run reading (now (s .entry)) 0) ⌝ }
+    ensures { λ r. ⌜ Beside blank (r .edid) (r .end) (answer (now (s .entry))) ⌝ }
 {
     let mut c = Cursor { at: 0 };
     let front = match crate_head::take_front(c, s) {

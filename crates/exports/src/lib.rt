@@ -5,7 +5,7 @@ ghost use lib.Dec.{eqb};
 ghost use Rattle.steps.specs.Leaves.{ended};
 ghost use Rattle.steps.specs.Answers.{taken};
 ghost use Rattle.sums.specs.Sum.{byteSum};
-ghost use Rattle.crate_reading.specs.Demands.{answer};
+ghost use Rattle.crate_reading.specs.Reading.{answer};
 ghost use Rattle.exports.specs.Numbers.{endOf, numberOf};
 
 // The one caller of `read`, which drops the record: so `read` is compiled into it, and what only the record needs is left out.

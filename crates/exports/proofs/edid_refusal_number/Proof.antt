@@ -2,7 +2,7 @@
 use mathlib.Core.Path.{sym, ap, _∙_}
 use Rattle.steps.specs.Leaves.{ended}
 use denote.Ref.{now}
-use Rattle.crate_reading.specs.Demands.{answer}
+use Rattle.crate_reading.specs.Reading.{answer}
 use Rattle.exports.specs.Numbers.{numberOf, number-of-end}
 use borrow.Author.Needs.{needs}
 use Rattle.exports.proofs.edid_refusal_number.Statement.{statement}

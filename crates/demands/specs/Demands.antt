@@ -4,7 +4,7 @@ use mathlib.Core.Path.{_≡_, subst}
 use mathlib.Core.List.{List}
 use native.Mathlib.Omega.{arith}
 use lib.ListN.{take}
-use Rattle.steps.specs.Steps.{Outcome, got, refused, run}
+use Rattle.steps.specs.Steps.{got, refused}
 use Rattle.steps.specs.Leaves.{byte}
 use Rattle.steps.specs.Answers.{taken, Enough, cut-short, same-start, Ended, ends, Takes, no-byte, takes-then, takes-byte}
 use Rattle.crate_record.specs.Lists.{noStandard}
@@ -16,11 +16,8 @@ use Rattle.crate_timings.specs.Pairs.{pairs}
 use Rattle.crate_timings.specs.Lengths.{takes-established, takes-pairs}
 use Rattle.crate_slots.specs.Slots.{descriptors}
 use Rattle.crate_slots.specs.Lengths.{takes-descriptors}
-use Rattle.crate_reading.specs.Reading.{reading}
-
--- what the reading answers on the bytes s
-abbrev pub answer : List ℕ → Outcome EDID
-answer s = run reading s 0
+use Rattle.crate_reading.specs.Reading.{reading, answer}
+use Rattle.demands.specs.Cases.{shortest, longest, cases, cases-hold}
 
 -- (a) cut to any k below the bytes taken, the input is out of data at k
 pub cut-is-out-of-data : (s : List ℕ) (k : ℕ) → k < taken (answer s) → answer (take k s) ≡ refused 1 k
@@ -38,8 +35,16 @@ takes-reading =
     (λ e. takes-then (pairs 8 noStandard) _ 16 16 34 88 (takes-pairs 8 noStandard)
     (λ a. takes-then (descriptors a) _ 33 87 1 1 (takes-descriptors a) (λ l. takes-then byte _ 1 1 0 0 takes-byte (λ n. no-byte)))))
 
--- (c) a record only for 88 to 142 bytes; `Cases` has a block of each of the two
+-- (c) a record only for 88 to 142 bytes, and both ends occur
 pub record-takes-88-to-142 : (s : List ℕ) (e : EDID) (n : ℕ) → answer s ≡ got e n → (88 ≤ n) × (n ≤ 142)
 record-takes-88-to-142 s e n p =
     let q : Ended (λ _ m. (88 ≤ m) × (m ≤ 142)) 0 (got e n) = subst (Ended _ 0) p (ends reading _ s 0 takes-reading) in
     (omega (arith, q .1, q .2), omega (arith, q .1, q .2))
+
+pub a-record-of-88-bytes : (e : EDID) × (answer shortest ≡ got e 88)
+unfolding cases
+a-record-of-88-bytes = (_, cases-hold .0)
+
+pub a-record-of-142-bytes : (e : EDID) × (answer longest ≡ got e 142)
+unfolding cases
+a-record-of-142-bytes = (_, cases-hold .1 .0)

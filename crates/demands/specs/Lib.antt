@@ -1,0 +1,4 @@
+-- What is shown of the definitions: worked cases, and demand 3.
+pub mod Specimen
+pub mod Cases
+pub mod Demands
