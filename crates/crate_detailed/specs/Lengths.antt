@@ -23,8 +23,8 @@ slotBytes (Some t) = 18
 
 takes-fitted : (h : AcrossRead) (v : DownRead) → Takes 0 0 (fitted h v)
 unfolding fitted
-takes-fitted Across.Over v = tt
-takes-fitted (Across.Fits h) Down.Over = tt
+takes-fitted Across.Over v = omega arith
+takes-fitted (Across.Fits h) Down.Over = omega arith
 takes-fitted (Across.Fits h) (Down.Fits v) = no-byte
 
 takes-axes : (ha : ℕ) → Takes 9 9 (axes ha)

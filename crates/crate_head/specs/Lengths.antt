@@ -9,8 +9,8 @@ takes-header : Takes 8 8 header
 unfolding header
 takes-header =
     takes-then long _ 4 4 4 4 takes-long
-    (λ a. takes-ensured (eqb a 0xffffff00) 2 _ 4 4
-    (takes-then long _ 4 4 0 0 takes-long (λ b. takes-ensured (eqb b 0x00ffffff) 2 _ 0 0 no-byte)))
+    (λ a. takes-ensured (eqb a 0xffffff00) 2 _ 4 4 (omega arith)
+    (takes-then long _ 4 4 0 0 takes-long (λ b. takes-ensured (eqb b 0x00ffffff) 2 _ 0 0 (omega arith) no-byte)))
 
 takes-maker : Takes 2 2 maker
 unfolding maker

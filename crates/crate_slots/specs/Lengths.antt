@@ -37,7 +37,7 @@ takes-slots (suc n) a =
     (takes-then (into a x) (slots n) (left x) (left x) (n * 5) (n * 23) (takes-into a x) (λ b. takes-slots n b)))
 
 ends-expected : (t : MaybeTiming) → Ends (λ d k. (18 ≤ slotBytes t + k) × (slotBytes t + k ≤ 18)) (expected t)
-ends-expected Maybe.None = tt
+ends-expected Maybe.None = omega arith
 ends-expected (Maybe.Some t) = (omega arith, omega arith)
 
 takes-first : Takes 18 18 first

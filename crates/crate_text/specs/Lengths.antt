@@ -13,7 +13,7 @@ unfolding padding
 takes-padding zero = no-byte
 takes-padding (suc n) =
     takes-looser (padding (suc n)) (1 + n) (1 + n) (suc n) (suc n) (omega arith) (omega arith)
-    (takes-then byte _ 1 1 n n takes-byte (λ b. takes-ensured (eqb b 0x20) 5 _ n n (takes-padding n)))
+    (takes-then byte _ 1 1 n n takes-byte (λ b. takes-ensured (eqb b 0x20) 5 _ n n (omega arith) (takes-padding n)))
 
 pub takes-skip : (n : ℕ) → Takes n n (skip n)
 unfolding skip

@@ -3,10 +3,10 @@ use Prim.Native.Nat.{ℕ, _≤_, _<_}
 use mathlib.Core.Path.{_≡_, subst}
 use mathlib.Core.List.{List}
 use native.Mathlib.Omega.{arith}
-use lib.ListN.{take}
+use lib.ListN.{length, take}
 use Rattle.steps.specs.Steps.{got, refused}
 use Rattle.steps.specs.Leaves.{byte}
-use Rattle.steps.specs.Answers.{taken, Enough, cut-short, same-start, Ended, ends, Takes, no-byte, takes-then, takes-byte}
+use Rattle.steps.specs.Answers.{taken, Enough, cut-short, same-start, Ended, ends, out-at-end, Takes, no-byte, takes-then, takes-byte}
 use Rattle.crate_record.specs.Lists.{noStandard}
 use Rattle.crate_record.specs.declared.EDID.{EDID}
 use Rattle.crate_head.specs.Head.{front}
@@ -34,6 +34,10 @@ takes-reading =
     (λ f. takes-then established _ 3 3 50 104 takes-established
     (λ e. takes-then (pairs 8 noStandard) _ 16 16 34 88 (takes-pairs 8 noStandard)
     (λ a. takes-then (descriptors a) _ 33 87 1 1 (takes-descriptors a) (λ l. takes-then byte _ 1 1 0 0 takes-byte (λ n. no-byte)))))
+
+-- out of data is refused at the input's length
+pub out-of-data-at-the-length : (s : List ℕ) (n : ℕ) → answer s ≡ refused 1 n → n ≡ length s
+out-of-data-at-the-length s n o = out-at-end reading _ s 0 n takes-reading (omega arith) o
 
 -- (c) a record only for 88 to 142 bytes, and both ends occur
 pub record-takes-88-to-142 : (s : List ℕ) (e : EDID) (n : ℕ) → answer s ≡ got e n → (88 ≤ n) × (n ≤ 142)
