@@ -257,7 +257,7 @@ pub enum Verdict {
 
 // The record, and beside it how its reading ended; the filler where it was refused.
 pub struct StandardReading {
-    pub record: StandardRecord,
+    pub edid: StandardRecord,
     pub end: Verdict,
 }
 
