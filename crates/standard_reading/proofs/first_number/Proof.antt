@@ -1,0 +1,20 @@
+-- `standard_reading::first_number` meets its contract: each arm by its test. Assumes nothing.
+use borrow.Author.Tests.{eq-eqb, ne-eqb}
+use borrow.Author.Needs.{needs}
+use Rattle.standard_reading.specs.Slot.{firstNumber}
+use Rattle.standard_reading.proofs.first_number.Statement.{statement}
+use Rattle.standard_reading.proofs.first_number.Tie as tie
+
+returns : tie.Need-returns
+unfolding firstNumber
+returns c = rw (← c .before .clock-in .ensures, eq-eqb _ _ (c .if1 .taken))
+
+returns-2 : tie.Need-returns-2
+unfolding firstNumber
+returns-2 c =
+    let b = c .before .before in
+    rw (← b .before .clock-in .ensures, ne-eqb _ _ (b .if1 .left)) (cc)
+
+pub first-number-spec : {M : Type 1} → statement M
+first-number-spec =
+    tie.close (tie.spec (search needs) (search needs) (search needs) returns returns-2)

@@ -1,0 +1,27 @@
+-- `standard_reading::later_number` meets its contract: each arm by its test. Assumes nothing.
+use borrow.Author.Tests.{eq-eqb, ne-eqb}
+use borrow.Author.Needs.{needs}
+use Rattle.standard_reading.specs.Slot.{laterNumber}
+use Rattle.standard_reading.proofs.later_number.Statement.{statement}
+use Rattle.standard_reading.proofs.later_number.Tie as tie
+
+returns : tie.Need-returns
+unfolding laterNumber
+returns c = rw (← c .before .before .clock-in .ensures, eq-eqb _ _ (c .before .if1 .taken)) (c .tag-number .ensures)
+
+returns-2 : tie.Need-returns-2
+unfolding laterNumber
+returns-2 c =
+    let b = c .before .before in
+    rw (← b .before .clock-in .ensures, ne-eqb _ _ (b .if1 .left)) (cc)
+
+pub later-number-spec : {M : Type 1} → statement M
+later-number-spec =
+    tie.close
+    (tie.spec
+    (search needs)
+    (search needs)
+    (search needs)
+    (search needs)
+    returns
+    returns-2)
