@@ -128,9 +128,14 @@ ofEntry Nothing = []
 
 -- ---- the number of the refusal that a slot gives, 0 for none
 
-abbrev pub overBy : Timed → ℕ
-overBy (Timed.Is d) = 0
-overBy Timed.Over = 6
+-- a timing whose sync and front porch exceed the blanking on one axis
+abbrev pub overBy : AcrossRead → DownRead → ℕ
+overBy (AcrossRead.Fits h) (DownRead.Fits v) = 0
+overBy (AcrossRead.Fits h) DownRead.Over = 6
+overBy AcrossRead.Over v = 6
+
+abbrev pub overIn : List ℕ → ℕ
+overIn t = overBy (acrossIn t) (downIn t)
 
 abbrev pub textNumber : List ℕ → ℕ
 textNumber t = cond (isPadded (part t 5 13)) 0 5
@@ -146,7 +151,7 @@ tagNumber t =
 
 -- the first slot must be a timing
 unfoldable pub firstNumber : List ℕ → ℕ
-firstNumber t = cond (eqb (clockIn t) 0) 3 (overBy (timingIn t))
+firstNumber t = cond (eqb (clockIn t) 0) 3 (overIn t)
 
 unfoldable pub laterNumber : List ℕ → ℕ
-laterNumber t = cond (eqb (clockIn t) 0) (tagNumber t) (overBy (timingIn t))
+laterNumber t = cond (eqb (clockIn t) 0) (tagNumber t) (overIn t)

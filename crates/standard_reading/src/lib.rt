@@ -35,7 +35,7 @@ ghost use mathlib.Core.List.{List, [], _++_};
 ghost use Prim.Native.Nat.{_+_, _*_, _≤_};
 ghost use lib.ListN.{length};
 ghost use Rattle.standard_record.specs.Lists.{whitePoints, establishedTimings, standardTimings, detailedTimings, descriptors};
-ghost use Rattle.standard_reading.specs.Slot.{clockIn, acrossIn, downIn, sizeIn, borderIn, timingIn, isTagged, pairsAt, pointAt, textIn, rangeIn, taggedIn, entryIn, overBy, textNumber, tagNumber, firstNumber, laterNumber};
+ghost use Rattle.standard_reading.specs.Slot.{clockIn, acrossIn, downIn, sizeIn, borderIn, timingIn, isTagged, pairsAt, pointAt, textIn, rangeIn, taggedIn, entryIn, overBy, overIn, textNumber, tagNumber, firstNumber, laterNumber};
 ghost use Rattle.standard_reading.specs.Block.{isHeader, unless, _▷_, verdictOf, pointsOf, pairsOf, timingsOf, entriesOf, productAt, displayAt, colorsAt, flagsAt, recordOf, standardOf};
 
 // What a slot's tag says.
@@ -199,13 +199,23 @@ fn entry_in(t: &[u8], at: usize) -> Entry
 
 // ---- the number of the refusal that a slot gives, 0 for none
 
-fn over_by(x: Timed) -> u8
-    ensures { λ r. ⌜ r ≡ overBy x ⌝ }
+fn over_by(h: AcrossRead, v: DownRead) -> u8
+    ensures { λ r. ⌜ r ≡ overBy h v ⌝ }
 {
-    match x {
-        Timed::Is(_) => 0,
-        Timed::Over => 6,
+    match h {
+        AcrossRead::Over => 6,
+        AcrossRead::Fits(_) => match v {
+            DownRead::Over => 6,
+            DownRead::Fits(_) => 0,
+        },
     }
+}
+
+fn over_in(t: &[u8]) -> u8
+    requires { ⌜ length (now t) ≡ 18 ⌝ }
+    ensures { λ r. ⌜ r ≡ overIn (now (t .entry)) ⌝ }
+{
+    over_by(across_in(t), down_in(t))
 }
 
 fn text_number(t: &[u8]) -> u8
@@ -238,11 +248,7 @@ fn first_number(t: &[u8]) -> u8
     requires { ⌜ length (now t) ≡ 18 ⌝ }
     ensures { λ r. ⌜ r ≡ firstNumber (now (t .entry)) ⌝ }
 {
-    if clock_in(t) == 0 {
-        3
-    } else {
-        over_by(timing_in(t))
-    }
+    if clock_in(t) == 0 { 3 } else { over_in(t) }
 }
 
 fn later_number(t: &[u8]) -> u8
@@ -252,7 +258,7 @@ fn later_number(t: &[u8]) -> u8
     if clock_in(t) == 0 {
         tag_number(t)
     } else {
-        over_by(timing_in(t))
+        over_in(t)
     }
 }
 

@@ -11,10 +11,7 @@ returns c = rw (← c .before .clock-in .ensures, eq-eqb _ _ (c .if1 .taken))
 
 returns-2 : tie.Need-returns-2
 unfolding firstNumber
-returns-2 c =
-    let b = c .before .before in
-    rw (← b .before .clock-in .ensures, ne-eqb _ _ (b .if1 .left)) (cc)
+returns-2 c = rw (← c .before .before .clock-in .ensures, ne-eqb _ _ (c .before .if1 .left)) (c .over-in .ensures)
 
 pub first-number-spec : {M : Type 1} → statement M
-first-number-spec =
-    tie.close (tie.spec (search needs) (search needs) (search needs) returns returns-2)
+first-number-spec = tie.close (tie.spec (search needs) (search needs) returns returns-2)

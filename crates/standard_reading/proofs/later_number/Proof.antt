@@ -11,17 +11,8 @@ returns c = rw (← c .before .before .clock-in .ensures, eq-eqb _ _ (c .before 
 
 returns-2 : tie.Need-returns-2
 unfolding laterNumber
-returns-2 c =
-    let b = c .before .before in
-    rw (← b .before .clock-in .ensures, ne-eqb _ _ (b .if1 .left)) (cc)
+returns-2 c = rw (← c .before .before .clock-in .ensures, ne-eqb _ _ (c .before .if1 .left)) (c .over-in .ensures)
 
 pub later-number-spec : {M : Type 1} → statement M
 later-number-spec =
-    tie.close
-    (tie.spec
-    (search needs)
-    (search needs)
-    (search needs)
-    (search needs)
-    returns
-    returns-2)
+    tie.close (tie.spec (search needs) (search needs) (search needs) returns returns-2)
