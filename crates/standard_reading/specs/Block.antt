@@ -109,6 +109,15 @@ verdictOf s =
     ▷ (laterNumber (slot s 2), start 2)
     ▷ (laterNumber (slot s 3), start 3)
 
+-- an answer's number and place; 0 at 0 where it is accepted
+abbrev pub numberOf : Verdict → ℕ
+numberOf Accepted = 0
+numberOf (Refused f) = f .number
+
+abbrev pub placeOf : Verdict → ℕ
+placeOf Accepted = 0
+placeOf (Refused f) = f .at
+
 -- ---- the reading
 
 -- beside a refusal the record is the filler
@@ -119,6 +128,9 @@ beside (Refused f) r = record { edid = blank; end = Refused f }
 unfoldable pub standardOf : List ℕ → StandardReading
 standardOf s = beside (verdictOf s) (recordOf s)
 
--- at most one reading fits: so it is wherever a contract says `r ≡` a definition
+-- At most one value fits a contract that says `r ≡ d` of a definition d, as each public one of the standard reading does.
+pub one-value : {A : Type 0} (d r r′ : A) → r ≡ d → r′ ≡ d → r ≡ r′
+one-value d r r′ e e′ = e ∙ sym e′
+
 pub one-reading : (s : List ℕ) (r r′ : StandardReading) → r ≡ standardOf s → r′ ≡ standardOf s → r ≡ r′
-one-reading s r r′ e e′ = e ∙ sym e′
+one-reading s = one-value (standardOf s)

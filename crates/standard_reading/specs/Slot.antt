@@ -21,7 +21,7 @@ use Rattle.standard_record.specs.declared.Descriptor.the-variants.{Serial, Text
 use Rattle.standard_parts.specs.Gather.{gather}
 use Rattle.standard_parts.specs.Color.{pointOf}
 use Rattle.standard_parts.specs.Timings.{pairOf, syncOf, timedBy}
-use Rattle.standard_parts.specs.Slots.{limitsOf, secondaryOf, closingOf, reservedOf}
+use Rattle.standard_parts.specs.Descriptors.{limitsOf, secondaryOf, closingOf, reservedOf}
 use Rattle.standard_parts.specs.Text.{textLength, allSpaces, isPadded}
 use Rattle.standard_parts.specs.declared.Pair.{Pair}
 use Rattle.standard_parts.specs.declared.Pair.the-variants as Pair
@@ -73,11 +73,11 @@ timingsIn t = cond (eqb (clockIn t) 0) [] (fitting (timingIn t))
 abbrev pub isTagged : List ℕ → ℕ → Bool
 isTagged t tag = cond (eqb (clockIn t) 0) (eqb (t ! 3) tag) false
 
--- n pairs from k on
 abbrev pub ofPair : Pair → List StandardTiming
 ofPair (Pair.Listed v) = v ∷ []
 ofPair Pair.Skipped = []
 
+-- n pairs from k on
 abbrev pub pairsAt : List ℕ → ℕ → ℕ → List StandardTiming
 pairsAt s k n = gather (λ i. ofPair (pairOf (s ! (k + 2 * i)) (s ! (k + 2 * i + 1)))) n
 
