@@ -8,8 +8,10 @@ use Rattle.standard_record.specs.Filler.{blank, blankDetailed}
 use Rattle.standard_record.specs.declared.Maker.{Maker}
 use Rattle.standard_record.specs.declared.StandardReading.{StandardReading}
 use Rattle.standard_parts.specs.Head.{productOf}
-use Rattle.standard_reading.specs.Slot.{timingIn, tagNumber, firstNumber, laterNumber}
-use Rattle.standard_reading.specs.Block.{recordOf, verdictOf, numberOf, placeOf, standardOf}
+use Rattle.standard_verdict.specs.Slot.{tagNumber, firstNumber, laterNumber}
+use Rattle.standard_verdict.specs.Verdict.{verdictOf, numberOf, placeOf}
+use Rattle.standard_reading.specs.Slot.{timingIn}
+use Rattle.standard_reading.specs.Block.{recordOf, standardOf}
 
 pub specimen : List ℕ
 specimen =

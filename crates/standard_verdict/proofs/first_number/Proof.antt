@@ -1,9 +1,9 @@
--- `standard_reading::first_number` meets its contract: each arm by its test. Assumes nothing.
+-- `standard_verdict::first_number` meets its contract: each arm by its test. Assumes nothing.
 use borrow.Author.Tests.{eq-eqb, ne-eqb}
 use borrow.Author.Needs.{needs}
-use Rattle.standard_reading.specs.Slot.{firstNumber}
-use Rattle.standard_reading.proofs.first_number.Statement.{statement}
-use Rattle.standard_reading.proofs.first_number.Tie as tie
+use Rattle.standard_verdict.specs.Slot.{firstNumber}
+use Rattle.standard_verdict.proofs.first_number.Statement.{statement}
+use Rattle.standard_verdict.proofs.first_number.Tie as tie
 
 returns : tie.Need-returns
 unfolding firstNumber

@@ -1,9 +1,9 @@
--- `standard_reading::verdict_of` meets its contract: the length is judged first, the rest by what its callees ensure. Assumes nothing.
+-- `standard_verdict::verdict_of` meets its contract: the length is judged first, the rest by what its callees ensure. Assumes nothing.
 use borrow.Author.Tests.{eq-eqb, ne-eqb}
 use borrow.Author.Needs.{needs}
-use Rattle.standard_reading.specs.Block.{verdictOf}
-use Rattle.standard_reading.proofs.verdict_of.Statement.{statement}
-use Rattle.standard_reading.proofs.verdict_of.Tie as tie
+use Rattle.standard_verdict.specs.Verdict.{verdictOf}
+use Rattle.standard_verdict.proofs.verdict_of.Statement.{statement}
+use Rattle.standard_verdict.proofs.verdict_of.Tie as tie
 
 returns : tie.Need-returns
 unfolding verdictOf

@@ -1,7 +1,7 @@
--- `standard_reading::over_in` meets its contract: by what its callees ensure. Assumes nothing.
+-- `standard_verdict::over_in` meets its contract: by what its callees ensure. Assumes nothing.
 use borrow.Author.Needs.{needs}
-use Rattle.standard_reading.proofs.over_in.Statement.{statement}
-use Rattle.standard_reading.proofs.over_in.Tie as tie
+use Rattle.standard_verdict.proofs.over_in.Statement.{statement}
+use Rattle.standard_verdict.proofs.over_in.Tie as tie
 
 returns : tie.Need-returns
 returns c = rw (c .over-by .ensures, c .before .down-in .ensures, c .before .before .across-in .ensures)

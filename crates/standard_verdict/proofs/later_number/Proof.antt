@@ -1,9 +1,9 @@
--- `standard_reading::later_number` meets its contract: each arm by its test. Assumes nothing.
+-- `standard_verdict::later_number` meets its contract: each arm by its test. Assumes nothing.
 use borrow.Author.Tests.{eq-eqb, ne-eqb}
 use borrow.Author.Needs.{needs}
-use Rattle.standard_reading.specs.Slot.{laterNumber}
-use Rattle.standard_reading.proofs.later_number.Statement.{statement}
-use Rattle.standard_reading.proofs.later_number.Tie as tie
+use Rattle.standard_verdict.specs.Slot.{laterNumber}
+use Rattle.standard_verdict.proofs.later_number.Statement.{statement}
+use Rattle.standard_verdict.proofs.later_number.Tie as tie
 
 returns : tie.Need-returns
 unfolding laterNumber
