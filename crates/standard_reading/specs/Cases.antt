@@ -8,8 +8,8 @@ use Rattle.standard_record.specs.Filler.{blank, blankDetailed}
 use Rattle.standard_record.specs.declared.Maker.{Maker}
 use Rattle.standard_record.specs.declared.StandardReading.{StandardReading}
 use Rattle.standard_parts.specs.Head.{productOf}
-use Rattle.standard_verdict.specs.Slot.{tagNumber, firstNumber, laterNumber}
-use Rattle.standard_verdict.specs.Verdict.{verdictOf, numberOf, placeOf}
+use Rattle.standard_verdict.specs.Slot.{tagNumber, slotNumber}
+use Rattle.standard_verdict.specs.Verdict.{judged, numberOf, placeOf}
 use Rattle.standard_reading.specs.Slot.{timingIn}
 use Rattle.standard_reading.specs.Block.{recordOf, standardOf}
 
@@ -63,5 +63,5 @@ cases =
     []
 
 pub right : Right cases
-unfolding specimen standardOf verdictOf recordOf firstNumber laterNumber tagNumber timingIn productOf acrossOf downOf blank
+unfolding specimen standardOf judged recordOf slotNumber tagNumber timingIn productOf acrossOf downOf blank
 right = (refl, (refl, (refl, (refl, tt))))

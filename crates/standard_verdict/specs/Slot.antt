@@ -53,9 +53,6 @@ tagNumber t =
     (cond (eqb (t ! 3) 0xfe) (textNumber t)
     (cond (eqb (t ! 3) 0xff) (textNumber t) 0)))))
 
--- the first slot must be a timing
-unfoldable pub firstNumber : List ℕ → ℕ
-firstNumber t = cond (eqb (clockIn t) 0) 3 (overIn t)
-
-unfoldable pub laterNumber : List ℕ → ℕ
-laterNumber t = cond (eqb (clockIn t) 0) (tagNumber t) (overIn t)
+-- of the slot i: the first must be a timing
+unfoldable pub slotNumber : ℕ → List ℕ → ℕ
+slotNumber i t = cond (eqb (clockIn t) 0) (cond (eqb i 0) 3 (tagNumber t)) (overIn t)

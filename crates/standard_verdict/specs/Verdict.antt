@@ -1,5 +1,5 @@
 -- The verdict on a block: the first refusal in order, or none.
-use Prim.Native.Nat.{ℕ, _+_, _*_}
+use Prim.Native.Nat.{ℕ, zero, suc, _+_, _*_}
 use mathlib.Core.Bool.{Bool, true, false, cond}
 use mathlib.Core.List.{List}
 use lib.Dec.{eqb}
@@ -7,7 +7,7 @@ use lib.ListN.{length}
 use Rattle.sums.specs.Sum.{byteSum}
 use Rattle.standard_record.specs.declared.Verdict.{Verdict}
 use Rattle.standard_record.specs.declared.Verdict.the-variants.{Accepted, Refused}
-use Rattle.standard_verdict.specs.Slot.{_!_, part, firstNumber, laterNumber}
+use Rattle.standard_verdict.specs.Slot.{_!_, part, slotNumber}
 
 -- the four slots
 abbrev pub start : ℕ → ℕ
@@ -35,17 +35,18 @@ long s k = s ! k + 256 * s ! (k + 1) + 65536 * (s ! (k + 2) + 256 * s ! (k + 3))
 abbrev pub isHeader : List ℕ → Bool
 isHeader s = cond (eqb (long s 0) 0xffff_ff00) (eqb (long s 4) 0x00ff_ffff) false
 
-unfoldable pub verdictOf : List ℕ → Verdict
-verdictOf s =
+-- what is said before the slots, then after each of them
+unfoldable pub judged : List ℕ → ℕ → Verdict
+judged s zero =
     Accepted
     ▷ (unless (eqb (length s) 128) 7, 0)
     ▷ (unless (isHeader s) 2, 0)
     ▷ (unless (eqb (byteSum s) 0) 8, 127)
     ▷ (unless (eqb (s ! 18) 1) 9, 18)
-    ▷ (firstNumber (slot s 0), start 0)
-    ▷ (laterNumber (slot s 1), start 1)
-    ▷ (laterNumber (slot s 2), start 2)
-    ▷ (laterNumber (slot s 3), start 3)
+judged s (suc n) = judged s n ▷ (slotNumber n (slot s n), start n)
+
+abbrev pub verdictOf : List ℕ → Verdict
+verdictOf s = judged s 4
 
 -- an answer's number and place; 0 at 0 where it is accepted
 abbrev pub numberOf : Verdict → ℕ

@@ -5,7 +5,7 @@ use timing::AcrossRead;
 use timing::DownRead;
 ghost use mathlib.Core.Path.{_≡_};
 ghost use lib.ListN.{length};
-ghost use Rattle.standard_verdict.specs.Slot.{_!_, clockIn, acrossIn, downIn, overBy, overIn, textNumber, tagNumber, firstNumber, laterNumber};
+ghost use Rattle.standard_verdict.specs.Slot.{_!_, clockIn, acrossIn, downIn, overBy, overIn, textNumber, tagNumber, slotNumber};
 ghost use Rattle.standard_verdict.specs.Verdict.{isHeader, unless, _▷_, verdictOf};
 
 // ---- one slot: t is its 18 bytes
@@ -94,19 +94,12 @@ fn tag_number(t: &[u8]) -> u8
     }
 }
 
-fn first_number(t: &[u8]) -> u8
+fn slot_number(i: usize, t: &[u8]) -> u8
     requires { ⌜ length (now t) ≡ 18 ⌝ }
-    ensures { λ r. ⌜ r ≡ firstNumber (now (t .entry)) ⌝ }
-{
-    if clock_in(t) == 0 { 3 } else { over_in(t) }
-}
-
-fn later_number(t: &[u8]) -> u8
-    requires { ⌜ length (now t) ≡ 18 ⌝ }
-    ensures { λ r. ⌜ r ≡ laterNumber (now (t .entry)) ⌝ }
+    ensures { λ r. ⌜ r ≡ slotNumber i (now (t .entry)) ⌝ }
 {
     if clock_in(t) == 0 {
-        tag_number(t)
+        if i == 0 { 3 } else { tag_number(t) }
     } else {
         over_in(t)
     }
@@ -156,9 +149,12 @@ pub fn verdict_of(s: &[u8]) -> Verdict
     }
     let v = and_then(Verdict::Accepted, unless(header_in(s), 2), 0);
     let v = and_then(v, unless(sums::sum_is_zero(s), 8), 127);
-    let v = and_then(v, unless(s[18] == 1, 9), 18);
-    let v = and_then(v, first_number(&s[54..72]), 54);
-    let v = and_then(v, later_number(&s[72..90]), 72);
-    let v = and_then(v, later_number(&s[90..108]), 90);
-    and_then(v, later_number(&s[108..126]), 108)
+    let mut v = and_then(v, unless(s[18] == 1, 9), 18);
+    let mut i: usize = 0;
+    while i < 4 {
+        let at = 54 + 18 * i;
+        v = and_then(v, slot_number(i, &s[at..at + 18]), at);
+        i += 1;
+    }
+    v
 }
