@@ -2,6 +2,6 @@
 pub mod Head
 pub mod Color
 pub mod Timings
-pub mod Slots
+pub mod Descriptors
 pub mod Text
 pub mod Gather

@@ -31,7 +31,7 @@ ghost use Rattle.standard_record.specs.Lists.{establishedTimings};
 ghost use Rattle.standard_parts.specs.Head.{letterOf, makerOf, productOf, inputOf, imageOf, gammaOf, typeOf, featuresOf};
 ghost use Rattle.standard_parts.specs.Color.{placeOf, colorsOf, pointOf};
 ghost use Rattle.standard_parts.specs.Timings.{flagsOf, ratioOf, pairOf, lineOf, syncBy, syncOf, timedBy};
-ghost use Rattle.standard_parts.specs.Slots.{limitsOf, secondaryOf, closingOf, reservedOf};
+ghost use Rattle.standard_parts.specs.Descriptors.{limitsOf, secondaryOf, closingOf, reservedOf};
 ghost use Rattle.standard_parts.specs.Text.{textLength, allSpaces, isPadded};
 
 // What two bytes of a standard timing say.

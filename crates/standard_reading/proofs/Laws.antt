@@ -9,8 +9,9 @@ use lib.ListN.{length}
 use borrow.Author.Tests.{eqb-true, eq-eqb, ne-eqb}
 use Rattle.standard_record.specs.declared.Verdict.the-variants.{Accepted}
 use Rattle.standard_parts.specs.declared.Timed.{Timed}
-use Rattle.standard_reading.specs.Slot.{clockIn, timingIn, fitting, timingsIn, isTagged, pairsAt, pairsIn}
-use Rattle.standard_reading.specs.Block.{verdictOf}
+use Rattle.standard_verdict.specs.Slot.{clockIn}
+use Rattle.standard_verdict.specs.Verdict.{judged, verdictOf}
+use Rattle.standard_reading.specs.Slot.{timingIn, fitting, timingsIn, isTagged, pairsAt, pairsIn}
 
 -- a slot with a clock, and one without
 pub timed : (t : List ℕ) (k : ℕ) (x : Timed) → clockIn t ≡ k → (k ≡ 0 → ⊥) → timingIn t ≡ x → timingsIn t ≡ fitting x
@@ -28,7 +29,7 @@ no-six t e = rw e
 
 -- what is accepted has 128 bytes
 pub accepted-length : (s : List ℕ) → verdictOf s ≡ Accepted → length s ≡ 128
-unfolding verdictOf
+unfolding judged
 accepted-length s e = go (eqb (length s) 128) refl
   where
     go : (b : Bool) → eqb (length s) 128 ≡ b → length s ≡ 128

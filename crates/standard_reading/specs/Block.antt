@@ -1,11 +1,7 @@
 -- The standard reading of a block, by fixed offsets.
-use Prim.Native.Nat.{ℕ, _+_, _*_}
+use Prim.Native.Nat.{ℕ}
 use mathlib.Core.Path.{_≡_, sym, _∙_}
-use mathlib.Core.Bool.{Bool, true, false, cond}
-use mathlib.Core.List.{List, [], _∷_, _++_}
-use lib.Dec.{eqb}
-use lib.ListN.{length}
-use Rattle.sums.specs.Sum.{byteSum}
+use mathlib.Core.List.{List, _++_}
 use Rattle.standard_record.specs.Filler.{blank}
 use Rattle.standard_record.specs.Lists.{whitePoints, establishedTimings, standardTimings, detailedTimings, descriptors}
 use Rattle.standard_record.specs.declared.Verdict.{Verdict}
@@ -23,15 +19,9 @@ use Rattle.standard_parts.specs.Gather.{gather}
 use Rattle.standard_parts.specs.Head.{productOf, inputOf, imageOf, gammaOf, featuresOf}
 use Rattle.standard_parts.specs.Color.{colorsOf}
 use Rattle.standard_parts.specs.Timings.{flagsOf}
-use Rattle.standard_reading.specs.Slot.{_!_, part, pairsAt, pairsIn, pointsIn, timingsIn, ofEntry, entryIn, firstNumber, laterNumber}
-
--- ---- the four slots
-
-abbrev pub start : ℕ → ℕ
-start i = 54 + 18 * i
-
-abbrev pub slot : List ℕ → ℕ → List ℕ
-slot s i = part s (start i) 18
+use Rattle.standard_verdict.specs.Slot.{_!_}
+use Rattle.standard_verdict.specs.Verdict.{start, slot, verdictOf}
+use Rattle.standard_reading.specs.Slot.{pairsAt, pairsIn, pointsIn, timingsIn, ofEntry, entryIn}
 
 -- ---- the record
 
@@ -76,39 +66,6 @@ recordOf s = record {
   extensions = s ! 126;
 }
 
--- ---- the verdict
-
--- the number where the test fails, 0 for none
-abbrev pub unless : Bool → ℕ → ℕ
-unless true n = 0
-unless false n = n
-
-infixl 20 _▷_
--- the first refusal stays; a further one has its number and its place
-abbrev pub _▷_ : Verdict → ℕ × ℕ → Verdict
-Refused f ▷ p = Refused f
-Accepted ▷ p = cond (eqb (p .0) 0) Accepted (Refused (record { number = p .0; at = p .1 }))
-
--- four bytes, the low one first
-abbrev pub long : List ℕ → ℕ → ℕ
-long s k = s ! k + 256 * s ! (k + 1) + 65536 * (s ! (k + 2) + 256 * s ! (k + 3))
-
--- 00 FF FF FF, then FF FF FF 00
-abbrev pub isHeader : List ℕ → Bool
-isHeader s = cond (eqb (long s 0) 0xffff_ff00) (eqb (long s 4) 0x00ff_ffff) false
-
-unfoldable pub verdictOf : List ℕ → Verdict
-verdictOf s =
-    Accepted
-    ▷ (unless (eqb (length s) 128) 7, 0)
-    ▷ (unless (isHeader s) 2, 0)
-    ▷ (unless (eqb (byteSum s) 0) 8, 127)
-    ▷ (unless (eqb (s ! 18) 1) 9, 18)
-    ▷ (firstNumber (slot s 0), start 0)
-    ▷ (laterNumber (slot s 1), start 1)
-    ▷ (laterNumber (slot s 2), start 2)
-    ▷ (laterNumber (slot s 3), start 3)
-
 -- ---- the reading
 
 -- beside a refusal the record is the filler
@@ -119,6 +76,9 @@ beside (Refused f) r = record { edid = blank; end = Refused f }
 unfoldable pub standardOf : List ℕ → StandardReading
 standardOf s = beside (verdictOf s) (recordOf s)
 
--- at most one reading fits: so it is wherever a contract says `r ≡` a definition
+-- At most one value fits a contract that says `r ≡ d` of a definition d, as each public one of the standard reading does.
+pub one-value : {A : Type 0} (d r r′ : A) → r ≡ d → r′ ≡ d → r ≡ r′
+one-value d r r′ e e′ = e ∙ sym e′
+
 pub one-reading : (s : List ℕ) (r r′ : StandardReading) → r ≡ standardOf s → r′ ≡ standardOf s → r ≡ r′
-one-reading s r r′ e e′ = e ∙ sym e′
+one-reading s = one-value (standardOf s)

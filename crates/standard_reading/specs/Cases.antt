@@ -1,4 +1,4 @@
--- Document 01's cases of the standard reading: entries of one list under one claim, which antt computes from the definition.
+-- The worked cases of the standard reading: entries of one list under one claim, which antt computes from the definition.
 use mathlib.Core.Path.{_≡_, refl}
 use mathlib.Core.List.{List, [], _∷_, _++_}
 use Prim.Native.Nat.{ℕ}
@@ -6,12 +6,12 @@ use lib.ListN.{getD, set, take, replicate}
 use Rattle.timing.specs.Axis.{acrossOf, downOf}
 use Rattle.standard_record.specs.Filler.{blank, blankDetailed}
 use Rattle.standard_record.specs.declared.Maker.{Maker}
-use Rattle.standard_record.specs.declared.Verdict.{Verdict}
-use Rattle.standard_record.specs.declared.Verdict.the-variants.{Accepted, Refused}
 use Rattle.standard_record.specs.declared.StandardReading.{StandardReading}
 use Rattle.standard_parts.specs.Head.{productOf}
-use Rattle.standard_reading.specs.Slot.{timingIn, tagNumber, firstNumber, laterNumber}
-use Rattle.standard_reading.specs.Block.{recordOf, verdictOf, standardOf}
+use Rattle.standard_verdict.specs.Slot.{tagNumber, slotNumber}
+use Rattle.standard_verdict.specs.Verdict.{judged, numberOf, placeOf}
+use Rattle.standard_reading.specs.Slot.{timingIn}
+use Rattle.standard_reading.specs.Block.{recordOf, standardOf}
 
 pub specimen : List ℕ
 specimen =
@@ -23,15 +23,17 @@ specimen =
     ++ (0x00 ∷ 0x00 ∷ 0x00 ∷ 0xfc ∷ 0x00 ∷ 0x4c ∷ 0x4f ∷ 0x42 ∷ 0x42 ∷ 0x59 ∷ 0x0a ∷ replicate 7 0x20)
     ++ (replicate 37 0x00 ++ (0xc3 ∷ []))
 
--- what a case looks at: how the reading ends, the maker, and the pixels of the first timing
+-- what a case looks at: the refusal's number and place, the maker, and the pixels of the first timing
 pub record Shown : Type 0 where
-  pub end : Verdict
+  pub number : ℕ
+  pub place : ℕ
   pub maker : Maker
   pub active : ℕ
 
 abbrev pub shown : StandardReading → Shown
 shown r = record {
-  end = r .end;
+  number = numberOf (r .end);
+  place = placeOf (r .end);
   maker = r .edid .product .maker;
   active = getD (r .edid .timings .detailed .items) 0 blankDetailed .across .active .0;
 }
@@ -42,11 +44,11 @@ pub record Case : Type 0 where
 
 -- accepted, with the maker A B C
 abbrev accepted : ℕ → Shown
-accepted n = record { end = Accepted; maker = record { 0 = 0x41; 1 = 0x42; 2 = 0x43 }; active = n }
+accepted n = record { number = 0; place = 0; maker = record { 0 = 0x41; 1 = 0x42; 2 = 0x43 }; active = n }
 
 -- the filler beside a number and a place
 abbrev refused : ℕ → ℕ → Shown
-refused n p = record { end = Refused (record { number = n; at = p }); maker = record { 0 = 0; 1 = 0; 2 = 0 }; active = 0 }
+refused n p = record { number = n; place = p; maker = record { 0 = 0; 1 = 0; 2 = 0 }; active = 0 }
 
 abbrev pub Right : List Case → Type 0
 Right [] = Unit {0}
@@ -61,5 +63,5 @@ cases =
     []
 
 pub right : Right cases
-unfolding specimen standardOf verdictOf recordOf firstNumber laterNumber tagNumber timingIn productOf acrossOf downOf blank
+unfolding specimen standardOf judged recordOf slotNumber tagNumber timingIn productOf acrossOf downOf blank
 right = (refl, (refl, (refl, (refl, tt))))

@@ -1,14 +1,10 @@
--- What a slot says: t is its 18 bytes, `at` the place of the first of them in the block.
+-- What a slot lists: t is its 18 bytes, `at` the place of the first of them in the block.
 use Prim.Native.Nat.{ℕ, _+_, _*_}
-use mathlib.Core.Bool.{Bool, true, false, cond}
+use mathlib.Core.Bool.{Bool, false, cond}
 use mathlib.Core.List.{List, [], _∷_, _++_}
 use lib.Dec.{eqb, ltb}
-use lib.ListN.{getD, take, drop}
 use Rattle.bits.specs.Fields.{bit}
 use Rattle.steps.specs.declared.Span.{Span}
-use Rattle.timing.specs.Axis.{acrossOf, downOf}
-use Rattle.timing.specs.declared.AcrossRead.{AcrossRead}
-use Rattle.timing.specs.declared.DownRead.{DownRead}
 use Rattle.timing.specs.declared.Size.{Size}
 use Rattle.timing.specs.declared.Border.{Border}
 use Rattle.timing.specs.Rest.{clockOf, sizeOf, borderOf, stereoOf}
@@ -21,35 +17,18 @@ use Rattle.standard_record.specs.declared.Descriptor.the-variants.{Serial, Text
 use Rattle.standard_parts.specs.Gather.{gather}
 use Rattle.standard_parts.specs.Color.{pointOf}
 use Rattle.standard_parts.specs.Timings.{pairOf, syncOf, timedBy}
-use Rattle.standard_parts.specs.Slots.{limitsOf, secondaryOf, closingOf, reservedOf}
-use Rattle.standard_parts.specs.Text.{textLength, allSpaces, isPadded}
+use Rattle.standard_parts.specs.Descriptors.{limitsOf, secondaryOf}
+use Rattle.standard_parts.specs.Text.{textLength}
 use Rattle.standard_parts.specs.declared.Pair.{Pair}
 use Rattle.standard_parts.specs.declared.Pair.the-variants as Pair
 use Rattle.standard_parts.specs.declared.Point.{Point}
 use Rattle.standard_parts.specs.declared.Point.the-variants as Point
 use Rattle.standard_parts.specs.declared.Timed.{Timed}
+use Rattle.standard_verdict.specs.Slot.{_!_, part, clockIn, acrossIn, downIn}
 use Rattle.standard_reading.specs.declared.Entry.{Entry}
 use Rattle.standard_reading.specs.declared.Entry.the-variants.{Nothing, Listed}
 
-infixl 90 _!_
--- the byte at k
-abbrev pub _!_ : List ℕ → ℕ → ℕ
-s ! k = getD s k 0
-
--- the n bytes from k on
-abbrev pub part : List ℕ → ℕ → ℕ → List ℕ
-part s k n = take n (drop k s)
-
--- ---- a timing has a clock
-
-abbrev pub clockIn : List ℕ → ℕ
-clockIn t = t ! 0 + 256 * t ! 1
-
-abbrev pub acrossIn : List ℕ → AcrossRead
-acrossIn t = acrossOf (t ! 2) (t ! 3) (t ! 4) (t ! 8) (t ! 9) (t ! 11)
-
-abbrev pub downIn : List ℕ → DownRead
-downIn t = downOf (t ! 5) (t ! 6) (t ! 7) (t ! 10) (t ! 11)
+-- ---- a slot with a clock is a timing
 
 abbrev pub sizeIn : List ℕ → Size
 sizeIn t = sizeOf (t ! 12) (t ! 13) (t ! 14)
@@ -73,11 +52,11 @@ timingsIn t = cond (eqb (clockIn t) 0) [] (fitting (timingIn t))
 abbrev pub isTagged : List ℕ → ℕ → Bool
 isTagged t tag = cond (eqb (clockIn t) 0) (eqb (t ! 3) tag) false
 
--- n pairs from k on
 abbrev pub ofPair : Pair → List StandardTiming
 ofPair (Pair.Listed v) = v ∷ []
 ofPair Pair.Skipped = []
 
+-- n pairs from k on
 abbrev pub pairsAt : List ℕ → ℕ → ℕ → List StandardTiming
 pairsAt s k n = gather (λ i. ofPair (pairOf (s ! (k + 2 * i)) (s ! (k + 2 * i + 1)))) n
 
@@ -125,28 +104,3 @@ entryIn t at = cond (eqb (clockIn t) 0) (taggedIn t at) Nothing
 abbrev pub ofEntry : Entry → List Held
 ofEntry (Listed d) = (record { descriptor = d }) ∷ []
 ofEntry Nothing = []
-
--- ---- the number of the refusal that a slot gives, 0 for none
-
-abbrev pub overBy : Timed → ℕ
-overBy (Timed.Is d) = 0
-overBy Timed.Over = 6
-
-abbrev pub textNumber : List ℕ → ℕ
-textNumber t = cond (isPadded (part t 5 13)) 0 5
-
-unfoldable pub tagNumber : List ℕ → ℕ
-tagNumber t =
-    cond (eqb (t ! 3) 0xfa) (closingOf (t ! 17) true)
-    (cond (eqb (t ! 3) 0xfb) (closingOf (t ! 15) (allSpaces (part t 16 2)))
-    (cond (eqb (t ! 3) 0xfc) (textNumber t)
-    (cond (eqb (t ! 3) 0xfd) (reservedOf (t ! 10) (t ! 11) (allSpaces (part t 12 6)))
-    (cond (eqb (t ! 3) 0xfe) (textNumber t)
-    (cond (eqb (t ! 3) 0xff) (textNumber t) 0)))))
-
--- the first slot must be a timing
-unfoldable pub firstNumber : List ℕ → ℕ
-firstNumber t = cond (eqb (clockIn t) 0) 3 (overBy (timingIn t))
-
-unfoldable pub laterNumber : List ℕ → ℕ
-laterNumber t = cond (eqb (clockIn t) 0) (tagNumber t) (overBy (timingIn t))

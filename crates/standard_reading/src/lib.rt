@@ -1,5 +1,5 @@
-// The standard reading of a block: slots at 54, 72, 90 and 108. It is judged first; then each list of the record is filled by a
-// function of its own, whose loop owns the array.
+// The standard reading of a block. It is judged first; then each list of the record is filled by a function of its own, whose loop
+// owns the array.
 use standard_parts::Pair;
 use standard_parts::Point;
 use standard_parts::Timed;
@@ -24,19 +24,16 @@ use standard_record::Timings;
 use standard_record::Verdict;
 use standard_record::Version;
 use standard_record::WhitePoints;
-use steps::Refusal;
 use steps::Span;
-use timing::AcrossRead;
 use timing::Border;
-use timing::DownRead;
 use timing::Size;
 ghost use mathlib.Core.Path.{_≡_};
 ghost use mathlib.Core.List.{List, [], _++_};
 ghost use Prim.Native.Nat.{_+_, _*_, _≤_};
 ghost use lib.ListN.{length};
 ghost use Rattle.standard_record.specs.Lists.{whitePoints, establishedTimings, standardTimings, detailedTimings, descriptors};
-ghost use Rattle.standard_reading.specs.Slot.{clockIn, acrossIn, downIn, sizeIn, borderIn, timingIn, isTagged, pairsAt, pointAt, textIn, rangeIn, taggedIn, entryIn, overBy, textNumber, tagNumber, firstNumber, laterNumber};
-ghost use Rattle.standard_reading.specs.Block.{isHeader, unless, _▷_, verdictOf, pointsOf, pairsOf, timingsOf, entriesOf, productAt, displayAt, colorsAt, flagsAt, recordOf, standardOf};
+ghost use Rattle.standard_reading.specs.Slot.{sizeIn, borderIn, timingIn, isTagged, pairsAt, pointAt, textIn, rangeIn, taggedIn, entryIn};
+ghost use Rattle.standard_reading.specs.Block.{pointsOf, pairsOf, timingsOf, entriesOf, productAt, displayAt, colorsAt, flagsAt, recordOf, standardOf};
 
 // What a slot's tag says.
 enum Entry {
@@ -45,27 +42,6 @@ enum Entry {
 }
 
 // ---- one slot: t is its 18 bytes, `at` the place of the first of them in the block
-
-fn clock_in(t: &[u8]) -> u16
-    requires { ⌜ length (now t) ≡ 18 ⌝ }
-    ensures { λ r. ⌜ r ≡ clockIn (now (t .entry)) ⌝ }
-{
-    bits::word(t[0], t[1])
-}
-
-fn across_in(t: &[u8]) -> AcrossRead
-    requires { ⌜ length (now t) ≡ 18 ⌝ }
-    ensures { λ r. ⌜ r ≡ acrossIn (now (t .entry)) ⌝ }
-{
-    timing::across_of(t[2], t[3], t[4], t[8], t[9], t[11])
-}
-
-fn down_in(t: &[u8]) -> DownRead
-    requires { ⌜ length (now t) ≡ 18 ⌝ }
-    ensures { λ r. ⌜ r ≡ downIn (now (t .entry)) ⌝ }
-{
-    timing::down_of(t[5], t[6], t[7], t[10], t[11])
-}
 
 fn size_in(t: &[u8]) -> Size
     requires { ⌜ length (now t) ≡ 18 ⌝ }
@@ -87,9 +63,9 @@ fn timing_in(t: &[u8]) -> Timed
 {
     let last = t[17];
     standard_parts::timed_by(
-        across_in(t),
-        down_in(t),
-        timing::clock_of(clock_in(t)),
+        standard_verdict::across_in(t),
+        standard_verdict::down_in(t),
+        timing::clock_of(standard_verdict::clock_in(t)),
         size_in(t),
         border_in(t),
         bits::is_set(last, 7),
@@ -102,7 +78,11 @@ fn is_tagged(t: &[u8], tag: u8) -> bool
     requires { ⌜ length (now t) ≡ 18 ⌝ }
     ensures { λ r. ⌜ r ≡ isTagged (now (t .entry)) tag ⌝ }
 {
-    if clock_in(t) == 0 { t[3] == tag } else { false }
+    if standard_verdict::clock_in(t) == 0 {
+        t[3] == tag
+    } else {
+        false
+    }
 }
 
 fn first_point(t: &[u8]) -> Point
@@ -190,121 +170,11 @@ fn entry_in(t: &[u8], at: usize) -> Entry
     requires { ⌜ (length (now t) ≡ 18) × (at ≤ 110) ⌝ }
     ensures { λ r. ⌜ r ≡ entryIn (now (t .entry)) at ⌝ }
 {
-    if clock_in(t) == 0 {
+    if standard_verdict::clock_in(t) == 0 {
         tagged_in(t, at)
     } else {
         Entry::Nothing
     }
-}
-
-// ---- the number of the refusal that a slot gives, 0 for none
-
-fn over_by(x: Timed) -> u8
-    ensures { λ r. ⌜ r ≡ overBy x ⌝ }
-{
-    match x {
-        Timed::Is(_) => 0,
-        Timed::Over => 6,
-    }
-}
-
-fn text_number(t: &[u8]) -> u8
-    requires { ⌜ length (now t) ≡ 18 ⌝ }
-    ensures { λ r. ⌜ r ≡ textNumber (now (t .entry)) ⌝ }
-{
-    if standard_parts::is_padded(&t[5..18]) {
-        0
-    } else {
-        5
-    }
-}
-
-fn tag_number(t: &[u8]) -> u8
-    requires { ⌜ length (now t) ≡ 18 ⌝ }
-    ensures { λ r. ⌜ r ≡ tagNumber (now (t .entry)) ⌝ }
-{
-    match t[3] {
-        0xfa => standard_parts::closing_of(t[17], true),
-        0xfb => standard_parts::closing_of(t[15], standard_parts::all_spaces(&t[16..18])),
-        0xfc => text_number(t),
-        0xfd => standard_parts::reserved_of(t[10], t[11], standard_parts::all_spaces(&t[12..18])),
-        0xfe => text_number(t),
-        0xff => text_number(t),
-        _ => 0,
-    }
-}
-
-fn first_number(t: &[u8]) -> u8
-    requires { ⌜ length (now t) ≡ 18 ⌝ }
-    ensures { λ r. ⌜ r ≡ firstNumber (now (t .entry)) ⌝ }
-{
-    if clock_in(t) == 0 {
-        3
-    } else {
-        over_by(timing_in(t))
-    }
-}
-
-fn later_number(t: &[u8]) -> u8
-    requires { ⌜ length (now t) ≡ 18 ⌝ }
-    ensures { λ r. ⌜ r ≡ laterNumber (now (t .entry)) ⌝ }
-{
-    if clock_in(t) == 0 {
-        tag_number(t)
-    } else {
-        over_by(timing_in(t))
-    }
-}
-
-// ---- the verdict
-
-fn header_in(s: &[u8]) -> bool
-    requires { ⌜ length (now s) ≡ 128 ⌝ }
-    ensures { λ r. ⌜ r ≡ isHeader (now (s .entry)) ⌝ }
-{
-    let low = bits::long(bits::word(s[0], s[1]), bits::word(s[2], s[3]));
-    let high = bits::long(bits::word(s[4], s[5]), bits::word(s[6], s[7]));
-    if low == 0xffff_ff00 {
-        high == 0x00ff_ffff
-    } else {
-        false
-    }
-}
-
-fn unless(passed: bool, number: u8) -> u8
-    ensures { λ r. ⌜ r ≡ unless passed number ⌝ }
-{
-    if passed { 0 } else { number }
-}
-
-fn and_then(v: Verdict, number: u8, at: usize) -> Verdict
-    ensures { λ r. ⌜ r ≡ v ▷ (number, at) ⌝ }
-{
-    match v {
-        Verdict::Refused(f) => Verdict::Refused(f),
-        Verdict::Accepted => {
-            if number == 0 {
-                Verdict::Accepted
-            } else {
-                Verdict::Refused(Refusal { number, at })
-            }
-        }
-    }
-}
-
-pub fn verdict_of(s: &[u8]) -> Verdict
-    ensures { λ r. ⌜ r ≡ verdictOf (now (s .entry)) ⌝ }
-{
-    if s.len() != 128 {
-        return Verdict::Refused(Refusal { number: 7, at: 0 });
-    }
-    let v = and_then(Verdict::Accepted, unless(header_in(s), 2), 0);
-    let v = and_then(v, unless(sums::sum_is_zero(s), 8), 127);
-    let v = and_then(v, unless(s[18] == 1, 9), 18);
-    let v = and_then(v, first_number(&s[54..72]), 54);
-    let v = and_then(v, later_number(&s[72..90]), 72);
-    let v = and_then(v, later_number(&s[90..108]), 90);
-    and_then(v, later_number(&s[108..126]), 108)
 }
 
 // ---- the lists
@@ -392,7 +262,7 @@ fn timings_of(s: &[u8]) -> DetailedTimings
     while i < 4 {
         let at = 54 + 18 * i;
         let t = &s[at..at + 18];
-        if clock_in(t) != 0 {
+        if standard_verdict::clock_in(t) != 0 {
             if let Timed::Is(d) = timing_in(t) {
                 if len < 4 {
                     items[len] = d;
@@ -510,7 +380,7 @@ fn record_of(s: &[u8]) -> StandardRecord
 pub fn read_standard(s: &[u8]) -> StandardReading
     ensures { λ r. ⌜ r ≡ standardOf (now (s .entry)) ⌝ }
 {
-    match verdict_of(s) {
+    match standard_verdict::verdict_of(s) {
         Verdict::Refused(f) => StandardReading {
             edid: standard_record::blank_record(),
             end: Verdict::Refused(f),

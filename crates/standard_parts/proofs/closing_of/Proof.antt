@@ -1,6 +1,6 @@
 -- `standard_parts::closing_of` meets its contract: each arm by the tests that led there. Assumes nothing.
 use borrow.Author.Tests.{eq-eqb, ne-eqb}
-use Rattle.standard_parts.specs.Slots.{closingOf}
+use Rattle.standard_parts.specs.Descriptors.{closingOf}
 use Rattle.standard_parts.proofs.closing_of.Statement.{statement}
 use Rattle.standard_parts.proofs.closing_of.Tie as tie
 

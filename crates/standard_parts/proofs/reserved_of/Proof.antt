@@ -1,7 +1,7 @@
 -- `standard_parts::reserved_of` meets its contract: each arm by its number. Assumes nothing.
 use borrow.Author.Tests.{eq-eqb, ne-eqb}
 use borrow.Author.Needs.{needs}
-use Rattle.standard_parts.specs.Slots.{reservedOf}
+use Rattle.standard_parts.specs.Descriptors.{reservedOf}
 use Rattle.standard_parts.proofs.reserved_of.Statement.{statement}
 use Rattle.standard_parts.proofs.reserved_of.Tie as tie
 

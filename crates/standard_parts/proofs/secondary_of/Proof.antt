@@ -1,7 +1,7 @@
 -- `standard_parts::secondary_of` meets its contract: each arm by its number. Assumes nothing.
 use borrow.Author.Tests.{ne-eqb}
 use borrow.Author.Needs.{needs}
-use Rattle.standard_parts.specs.Slots.{secondaryOf}
+use Rattle.standard_parts.specs.Descriptors.{secondaryOf}
 use Rattle.standard_parts.proofs.secondary_of.Statement.{statement}
 use Rattle.standard_parts.proofs.secondary_of.Tie as tie
 

@@ -10,7 +10,8 @@ use denote.Ref.{now}
 use borrow.Author.Needs.{needs}
 use Rattle.standard_parts.specs.Gather.{gather-more}
 use Rattle.standard_record.specs.Lists.{standardTimings}
-use Rattle.standard_reading.specs.Block.{slot, pairsOf}
+use Rattle.standard_verdict.specs.Verdict.{slot}
+use Rattle.standard_reading.specs.Block.{pairsOf}
 use Rattle.standard_reading.proofs.Laws.{six, no-six}
 use Rattle.standard_reading.proofs.pairs_of.Statement.{statement}
 use Rattle.standard_reading.proofs.pairs_of.Tie as tie

@@ -8,7 +8,7 @@ use native.Mathlib.Omega.{arith}
 use borrow.Author.Needs.{needs}
 use Rattle.standard_parts.specs.Gather.{Holds, gather-more, took, full, kept}
 use Rattle.standard_record.specs.Filler.{blankDetailed}
-use Rattle.standard_reading.specs.Block.{slot}
+use Rattle.standard_verdict.specs.Verdict.{slot}
 use Rattle.standard_reading.specs.Block.{timingsOf}
 use Rattle.standard_reading.proofs.Laws.{timed, untimed}
 use Rattle.standard_reading.proofs.timings_of.Statement.{statement}

@@ -1,9 +1,9 @@
--- `standard_reading::tag_number` meets its contract: each arm says which number the tag is, or that it is none of them. Assumes nothing.
+-- `standard_verdict::tag_number` meets its contract: each arm says which number the tag is, or that it is none of them. Assumes nothing.
 use borrow.Author.Tests.{ne-eqb}
 use borrow.Author.Needs.{needs}
-use Rattle.standard_reading.specs.Slot.{tagNumber}
-use Rattle.standard_reading.proofs.tag_number.Statement.{statement}
-use Rattle.standard_reading.proofs.tag_number.Tie as tie
+use Rattle.standard_verdict.specs.Slot.{tagNumber}
+use Rattle.standard_verdict.proofs.tag_number.Statement.{statement}
+use Rattle.standard_verdict.proofs.tag_number.Tie as tie
 
 returns : tie.Need-returns
 unfolding tagNumber

@@ -1,8 +1,8 @@
--- `standard_reading::and_then` meets its contract: each arm by its variant and its test. Assumes nothing.
+-- `standard_verdict::and_then` meets its contract: each arm by its variant and its test. Assumes nothing.
 use borrow.Author.Tests.{eq-eqb, ne-eqb}
 use borrow.Author.Needs.{needs}
-use Rattle.standard_reading.proofs.and_then.Statement.{statement}
-use Rattle.standard_reading.proofs.and_then.Tie as tie
+use Rattle.standard_verdict.proofs.and_then.Statement.{statement}
+use Rattle.standard_verdict.proofs.and_then.Tie as tie
 
 returns : tie.Need-returns
 returns c = rw (c .before .v .given .1)

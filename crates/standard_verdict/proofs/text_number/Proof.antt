@@ -1,8 +1,8 @@
--- `standard_reading::text_number` meets its contract: each arm by its test. Assumes nothing.
+-- `standard_verdict::text_number` meets its contract: each arm by its test. Assumes nothing.
 use mathlib.Core.Path.{sym, _∙_}
 use borrow.Author.Needs.{needs}
-use Rattle.standard_reading.proofs.text_number.Statement.{statement}
-use Rattle.standard_reading.proofs.text_number.Tie as tie
+use Rattle.standard_verdict.proofs.text_number.Statement.{statement}
+use Rattle.standard_verdict.proofs.text_number.Tie as tie
 
 returns : tie.Need-returns
 returns c = simp (sym (c .before .is-padded .ensures) ∙ c .if1 .taken)

@@ -1,9 +1,9 @@
--- `standard_reading::header_in` meets its contract: each arm by its test. Assumes nothing.
+-- `standard_verdict::header_in` meets its contract: each arm by its test. Assumes nothing.
 use borrow.Author.Tests.{eq-eqb, ne-eqb}
 use borrow.Author.Needs.{needs}
-use Rattle.standard_reading.specs.Block.{long}
-use Rattle.standard_reading.proofs.header_in.Statement.{statement}
-use Rattle.standard_reading.proofs.header_in.Tie as tie
+use Rattle.standard_verdict.specs.Verdict.{long}
+use Rattle.standard_verdict.proofs.header_in.Statement.{statement}
+use Rattle.standard_verdict.proofs.header_in.Tie as tie
 
 returns : tie.Need-returns
 returns c =
