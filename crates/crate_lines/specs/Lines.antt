@@ -2,13 +2,12 @@
 use Prim.Native.Nat.{ℕ, min}
 use mathlib.Core.List.{List, [], _∷_}
 use lib.ListN.{take}
-use Rattle.page.specs.Words.{text, newline, field, field32, field16, field8, flag, float, flat, each}
+use Rattle.page.specs.Words.{text, newline, field, field16, field8, float, flat, each}
+use Rattle.shared_lines.specs.Lines.{productNumbers, versionLine, inputFlags, digitalLine, dpmsLine, establishedLine, extensionsLine, refuseLine}
 use Rattle.steps.specs.declared.Cursor.{Cursor}
-use Rattle.steps.specs.declared.Refusal.{Refusal}
 use Rattle.steps.specs.declared.End.{End}
 use Rattle.steps.specs.declared.End.the-variants.{At, Refused}
 use Rattle.crate_record.specs.declared.ProductInformation.{ProductInformation}
-use Rattle.crate_record.specs.declared.Version.{Version}
 use Rattle.crate_record.specs.declared.VideoInput.{VideoInput}
 use Rattle.crate_record.specs.declared.VideoInput.the-variants.{Analog, Digital}
 use Rattle.crate_record.specs.declared.MaxSize.{MaxSize}
@@ -22,7 +21,6 @@ use Rattle.crate_record.specs.declared.DisplayParameters.{DisplayParameters}
 use Rattle.crate_record.specs.declared.Chromaticities.{Chromaticities}
 use Rattle.crate_record.specs.declared.WhitePoint.{WhitePoint}
 use Rattle.crate_record.specs.declared.WhitePoints.{WhitePoints}
-use Rattle.crate_record.specs.declared.EstablishedTimings.{EstablishedTimings}
 use Rattle.crate_record.specs.declared.StandardTiming.{StandardTiming}
 use Rattle.crate_record.specs.declared.StandardTimings.{StandardTimings}
 use Rattle.crate_record.specs.declared.EDID.{EDID}
@@ -33,21 +31,15 @@ unfoldable pub productLine : ProductInformation → List ℕ
 productLine p = flat (
     text "product" ∷
     field8 (p .maker .0) ∷ field8 (p .maker .1) ∷ field8 (p .maker .2) ∷
-    field16 (p .code) ∷ field32 (p .serial) ∷
-    field8 (p .date .week) ∷ field16 (p .date .year) ∷
-    newline ∷ [])
-
-unfoldable pub versionLine : Version → List ℕ
-versionLine v = flat (text "version" ∷ field8 (v .version) ∷ field8 (v .revision) ∷ newline ∷ [])
+    productNumbers (p .code) (p .serial) (p .date .week) (p .date .year) ∷ [])
 
 -- ---- display
 
 unfoldable pub inputLine : VideoInput → List ℕ
 inputLine (Analog level setup sync) = flat (
     text "analog" ∷ float (level .high) ∷ float (level .low) ∷
-    flag setup ∷ flag (sync .serrated) ∷ flag (sync .green) ∷ flag (sync .composite) ∷ flag (sync .separate) ∷
-    newline ∷ [])
-inputLine (Digital dfp) = flat (text "digital" ∷ flag dfp ∷ newline ∷ [])
+    inputFlags setup (sync .serrated) (sync .green) (sync .composite) (sync .separate) ∷ [])
+inputLine (Digital dfp) = digitalLine dfp
 
 unfoldable pub sizeLine : MaxSize → List ℕ
 sizeLine Size.None = text "size none\n"
@@ -64,14 +56,11 @@ kind RGBColor = 1
 kind OtherColor = 2
 kind Undefined = 3
 
-unfoldable pub dpmsLine : DPMSFeatures → List ℕ
-dpmsLine f = flat (
-    text "dpms" ∷ flag (f .standby) ∷ flag (f .suspend) ∷ flag (f .lowpower) ∷
-    field8 (kind (f .kind)) ∷ flag (f .srgb) ∷ flag (f .preferred) ∷ flag (f .gtf) ∷
-    newline ∷ [])
+unfoldable pub featuresLine : DPMSFeatures → List ℕ
+featuresLine f = dpmsLine (f .standby) (f .suspend) (f .lowpower) (kind (f .kind)) (f .srgb) (f .preferred) (f .gtf)
 
 unfoldable pub displayLines : DisplayParameters → List ℕ
-displayLines d = flat (inputLine (d .input) ∷ sizeLine (d .size) ∷ gammaLine (d .gamma) ∷ dpmsLine (d .dpms) ∷ [])
+displayLines d = flat (inputLine (d .input) ∷ sizeLine (d .size) ∷ gammaLine (d .gamma) ∷ featuresLine (d .dpms) ∷ [])
 
 -- ---- colour
 
@@ -91,9 +80,6 @@ whiteLines l = each whiteLine (take (min (l .len) 6) (l .items))
 
 -- ---- timings
 
-unfoldable pub establishedLine : EstablishedTimings → List ℕ
-establishedLine l = flat (text "established" ∷ each field8 (take (min (l .len) 17) (l .items)) ∷ newline ∷ [])
-
 unfoldable pub standardLine : StandardTiming → List ℕ
 standardLine t = flat (text "standard" ∷ field16 (t .width) ∷ float (t .ratio) ∷ field16 (t .rate) ∷ newline ∷ [])
 
@@ -102,24 +88,18 @@ standardLines l = each standardLine (take (min (l .len) 26) (l .items))
 
 -- ---- the whole
 
-unfoldable pub extensionsLine : ℕ → List ℕ
-extensionsLine n = flat (text "extensions" ∷ field8 n ∷ newline ∷ [])
-
 unfoldable pub acceptLine : Cursor → List ℕ
 acceptLine c = flat (text "accept" ∷ field (c .at) ∷ newline ∷ [])
-
-unfoldable pub refuseLine : Refusal → List ℕ
-refuseLine f = flat (text "refuse" ∷ field8 (f .number) ∷ field (f .at) ∷ newline ∷ [])
 
 -- of the input s
 unfoldable pub edidLines : List ℕ → EDID → List ℕ
 edidLines s e = flat (
     productLine (e .product) ∷
-    versionLine (e .version) ∷
+    versionLine (e .version .version) (e .version .revision) ∷
     displayLines (e .display) ∷
     chromaLine (e .color .basic) ∷
     whiteLines (e .color .points) ∷
-    establishedLine (e .timings .established) ∷
+    establishedLine (e .timings .established .items) (e .timings .established .len) ∷
     standardLines (e .timings .standard) ∷
     detailedLines (e .timings .detailed) ∷
     descriptorLines s (e .descriptors) ∷

@@ -4,20 +4,17 @@ use crate_record::DPMSFeatures;
 use crate_record::DisplayParameters;
 use crate_record::DisplayType;
 use crate_record::EDID;
-use crate_record::EstablishedTimings;
 use crate_record::Gamma;
 use crate_record::MaxSize;
 use crate_record::ProductInformation;
 use crate_record::Reading;
 use crate_record::StandardTiming;
 use crate_record::StandardTimings;
-use crate_record::Version;
 use crate_record::VideoInput;
 use crate_record::WhitePoint;
 use crate_record::WhitePoints;
 use steps::Cursor;
 use steps::End;
-use steps::Refusal;
 ghost use mathlib.Core.Path.{_≡_};
 ghost use lib.ListN.{take, drop};
 ghost use Rattle.page.specs.Page.{page, _▷_};
@@ -30,20 +27,7 @@ fn product_line(out: &mut [u8; 4096], at: usize, p: ProductInformation) -> usize
     n = page::field8(out, n, p.maker.0);
     n = page::field8(out, n, p.maker.1);
     n = page::field8(out, n, p.maker.2);
-    n = page::field16(out, n, p.code);
-    n = page::field32(out, n, p.serial);
-    n = page::field8(out, n, p.date.week);
-    n = page::field16(out, n, p.date.year);
-    page::newline(out, n)
-}
-
-fn version_line(out: &mut [u8; 4096], at: usize, v: Version) -> usize
-    ensures { λ r. ⌜ page (now (out .exit)) r ≡ page (now (out .entry)) at ▷ lines.versionLine v ⌝ }
-{
-    let mut n = page::bytes(out, at, b"version");
-    n = page::field8(out, n, v.version);
-    n = page::field8(out, n, v.revision);
-    page::newline(out, n)
+    shared_lines::product_numbers(out, n, p.code, p.serial, p.date.week, p.date.year)
 }
 
 // ---- display
@@ -56,18 +40,17 @@ fn input_line(out: &mut [u8; 4096], at: usize, t: VideoInput) -> usize
             let mut n = page::bytes(out, at, b"analog");
             n = page::float(out, n, level.high);
             n = page::float(out, n, level.low);
-            n = page::flag(out, n, setup);
-            n = page::flag(out, n, sync.serrated);
-            n = page::flag(out, n, sync.green);
-            n = page::flag(out, n, sync.composite);
-            n = page::flag(out, n, sync.separate);
-            page::newline(out, n)
+            shared_lines::input_flags(
+                out,
+                n,
+                setup,
+                sync.serrated,
+                sync.green,
+                sync.composite,
+                sync.separate,
+            )
         }
-        VideoInput::Digital { dfp } => {
-            let mut n = page::bytes(out, at, b"digital");
-            n = page::flag(out, n, dfp);
-            page::newline(out, n)
-        }
+        VideoInput::Digital { dfp } => shared_lines::digital_line(out, at, dfp),
     }
 }
 
@@ -109,21 +92,23 @@ fn kind_number(t: DisplayType) -> u8
     }
 }
 
-fn dpms_line(out: &mut [u8; 4096], at: usize, f: DPMSFeatures) -> usize
-    ensures { λ r. ⌜ page (now (out .exit)) r ≡ page (now (out .entry)) at ▷ lines.dpmsLine f ⌝ }
+fn features_line(out: &mut [u8; 4096], at: usize, f: DPMSFeatures) -> usize
+    ensures { λ r. ⌜ page (now (out .exit)) r ≡ page (now (out .entry)) at ▷ lines.featuresLine f ⌝ }
 {
     // an enum that is a field is copied before it is passed
     let kind = f.kind;
     let k = kind_number(kind);
-    let mut n = page::bytes(out, at, b"dpms");
-    n = page::flag(out, n, f.standby);
-    n = page::flag(out, n, f.suspend);
-    n = page::flag(out, n, f.lowpower);
-    n = page::field8(out, n, k);
-    n = page::flag(out, n, f.srgb);
-    n = page::flag(out, n, f.preferred);
-    n = page::flag(out, n, f.gtf);
-    page::newline(out, n)
+    shared_lines::dpms_line(
+        out,
+        at,
+        f.standby,
+        f.suspend,
+        f.lowpower,
+        k,
+        f.srgb,
+        f.preferred,
+        f.gtf,
+    )
 }
 
 fn display_lines(out: &mut [u8; 4096], at: usize, d: DisplayParameters) -> usize
@@ -135,7 +120,7 @@ fn display_lines(out: &mut [u8; 4096], at: usize, d: DisplayParameters) -> usize
     let mut n = input_line(out, at, input);
     n = size_line(out, n, size);
     n = gamma_line(out, n, gamma);
-    dpms_line(out, n, d.dpms)
+    features_line(out, n, d.dpms)
 }
 
 // ---- colour
@@ -182,20 +167,6 @@ fn white_lines(out: &mut [u8; 4096], at: usize, l: WhitePoints) -> usize
 
 // ---- timings
 
-fn established_line(out: &mut [u8; 4096], at: usize, l: EstablishedTimings) -> usize
-    ensures { λ r. ⌜ page (now (out .exit)) r ≡ page (now (out .entry)) at ▷ lines.establishedLine l ⌝ }
-{
-    let items = l.items;
-    let count = page::least(l.len, 17);
-    let mut n = page::bytes(out, at, b"established");
-    let mut i = 0;
-    while i < count {
-        n = page::field8(out, n, items[i]);
-        i += 1;
-    }
-    page::newline(out, n)
-}
-
 fn standard_line(out: &mut [u8; 4096], at: usize, t: StandardTiming) -> usize
     ensures { λ r. ⌜ page (now (out .exit)) r ≡ page (now (out .entry)) at ▷ lines.standardLine t ⌝ }
 {
@@ -222,14 +193,6 @@ fn standard_lines(out: &mut [u8; 4096], at: usize, l: StandardTimings) -> usize
 
 // ---- the whole
 
-fn extensions_line(out: &mut [u8; 4096], at: usize, k: u8) -> usize
-    ensures { λ r. ⌜ page (now (out .exit)) r ≡ page (now (out .entry)) at ▷ lines.extensionsLine k ⌝ }
-{
-    let mut n = page::bytes(out, at, b"extensions");
-    n = page::field8(out, n, k);
-    page::newline(out, n)
-}
-
 fn accept_line(out: &mut [u8; 4096], at: usize, c: Cursor) -> usize
     ensures { λ r. ⌜ page (now (out .exit)) r ≡ page (now (out .entry)) at ▷ lines.acceptLine c ⌝ }
 {
@@ -238,28 +201,20 @@ fn accept_line(out: &mut [u8; 4096], at: usize, c: Cursor) -> usize
     page::newline(out, n)
 }
 
-fn refuse_line(out: &mut [u8; 4096], at: usize, f: Refusal) -> usize
-    ensures { λ r. ⌜ page (now (out .exit)) r ≡ page (now (out .entry)) at ▷ lines.refuseLine f ⌝ }
-{
-    let mut n = page::bytes(out, at, b"refuse");
-    n = page::field8(out, n, f.number);
-    n = page::field(out, n, f.at);
-    page::newline(out, n)
-}
-
 fn edid_lines(out: &mut [u8; 4096], at: usize, s: &[u8], e: EDID) -> usize
     ensures { λ r. ⌜ page (now (out .exit)) r ≡ page (now (out .entry)) at ▷ lines.edidLines (now (s .entry)) e ⌝ }
 {
+    let flags = e.timings.established.items;
     let mut n = product_line(out, at, e.product);
-    n = version_line(out, n, e.version);
+    n = shared_lines::version_line(out, n, e.version.version, e.version.revision);
     n = display_lines(out, n, e.display);
     n = chroma_line(out, n, e.color.basic);
     n = white_lines(out, n, e.color.points);
-    n = established_line(out, n, e.timings.established);
+    n = shared_lines::established_line(out, n, flags, e.timings.established.len);
     n = standard_lines(out, n, e.timings.standard);
     n = crate_slot_lines::detailed_lines(out, n, e.timings.detailed);
     n = crate_slot_lines::descriptor_lines(out, n, s, e.descriptors);
-    extensions_line(out, n, e.extensions)
+    shared_lines::extensions_line(out, n, e.extensions)
 }
 
 fn ended_lines(out: &mut [u8; 4096], at: usize, s: &[u8], e: EDID, end: End) -> usize
@@ -270,7 +225,7 @@ fn ended_lines(out: &mut [u8; 4096], at: usize, s: &[u8], e: EDID, end: End) -> 
             let n = accept_line(out, at, c);
             edid_lines(out, n, s, e)
         }
-        End::Refused(f) => refuse_line(out, at, f),
+        End::Refused(f) => shared_lines::refuse_line(out, at, f),
     }
 }
 

@@ -1,17 +1,18 @@
 -- Worked lines: antt computes each definition to the text.
 use mathlib.Core.Bool.{true, false}
-use mathlib.Core.List.{[], _∷_}
+use mathlib.Core.List.{[]}
 use mathlib.Core.Path.{_≡_, refl}
 use lib.Ieee.{binary32, ofBits, toBits}
-use Rattle.page.specs.Words.{text, decimalIn, field, field32, field16, field8, flag, hexDigit, hexOf2, hexOf4, hexOf8, float, flat, each}
+use Rattle.page.specs.Words.{text, decimalIn, field32, field16, field8, flag, hexDigit, hexOf2, hexOf4, hexOf8, float, flat, each}
 use Rattle.timing.specs.Axis.{pixels, lines}
 use Rattle.timing.specs.declared.StereoType.the-variants as Stereo
 use Rattle.timing.specs.declared.SyncPolarity.the-variants.{Positive, Negative}
 use Rattle.crate_record.specs.declared.SyncLine.the-variants.{RGB, Digital}
 use Rattle.crate_record.specs.declared.SyncType.the-variants.{Composite, Separate}
 use Rattle.crate_record.specs.declared.SecondaryTiming.the-variants as Secondary
-use Rattle.crate_record.specs.declared.MonitorDescriptor.the-variants.{RangeLimits, MonitorName, ManufacturerDefined}
-use Rattle.crate_slot_lines.specs.Lines.{polarity, sync, detailedLine, textLine, raw, secondary, rangeLine, descriptorLine}
+use Rattle.crate_record.specs.declared.MonitorDescriptor.the-variants.{RangeLimits}
+use Rattle.shared_lines.specs.Lines.{axes, borderToStereo, polarity, limits}
+use Rattle.crate_slot_lines.specs.Lines.{sync, detailedLine, secondary, rangeLine, descriptorLine}
 
 detailed : detailedLine (record {
   clock = 40000000;
@@ -23,7 +24,7 @@ detailed : detailedLine (record {
   stereo = Stereo.None;
   sync = Separate Positive Positive;
 }) ≡ text "detailed 40000000 800 600 40 1 128 4 88 23 42000000 41900000 0 0 0 0 2 1 1\n"
-unfolding detailedLine flat float flag field32 field16 field8 decimalIn hexOf8 hexOf4 hexOf2 hexDigit ofBits toBits sync polarity
+unfolding detailedLine axes borderToStereo flat float flag field32 field16 field8 decimalIn hexOf8 hexOf4 hexOf2 hexDigit ofBits toBits sync polarity
 detailed = refl
 
 on-rgb : sync (Composite true RGB) ≡ text " 0 1 1"
@@ -34,15 +35,7 @@ digital : sync (Composite false (Digital Negative)) ≡ text " 1 0 0"
 unfolding sync polarity flat flag
 digital = refl
 
-name : descriptorLine [] (MonitorName (record { start = 77; len = 5 })) ≡ text "name 77 5\n"
-unfolding descriptorLine textLine flat field decimalIn
-name = refl
-
-maker : descriptorLine (0 ∷ 0 ∷ 254 ∷ 255 ∷ []) (ManufacturerDefined 15 (record { start = 2; len = 13 })) ≡ text "maker 15 feff\n"
-unfolding descriptorLine raw flat each field8 decimalIn hexOf2 hexDigit
-maker = refl
-
 range : descriptorLine [] (RangeLimits (record { vmin = 50; vmax = 75; hmin = 30000; hmax = 80000; clock = 130000000 }) Secondary.None)
     ≡ text "range 50 75 30000 80000 130000000 none\n"
-unfolding descriptorLine rangeLine secondary flat field8 field32 decimalIn
+unfolding descriptorLine rangeLine limits secondary flat field8 field32 decimalIn
 range = refl

@@ -8,7 +8,7 @@ use lib.Ieee.{Float}
 use lib.ListN.{length, length-append}
 use Rattle.page.specs.Words.{decimalIn, field, field32, field16, field8, flag, hexOf2, hexOf4, hexOf8, float, each}
 
-either : (t : Bool) (a b : List ℕ) (k : ℕ) → length a ≤ k → length b ≤ k → length (cond t a b) ≤ k
+pub either : (t : Bool) (a b : List ℕ) (k : ℕ) → length a ≤ k → length b ≤ k → length (cond t a b) ≤ k
 either true a b k p q = p
 either false a b k p q = q
 

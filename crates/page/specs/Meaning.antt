@@ -1,12 +1,12 @@
 -- What `▷` comes to: on a page with room, the text that is there, then the bytes, then what is left of the page.
 use Prim.Native.Nat.{ℕ, _+_, _<_, _≤_, min}
 use mathlib.Core.List.{List, [], _∷_, _++_, append-assoc}
-use mathlib.Core.Path.{_≡_, ap, _∙_}
+use mathlib.Core.Path.{_≡_, ap, sym, _∙_}
 use native.Mathlib.Numerals.{add-one}
 use native.Mathlib.Nat.{add-zero, zero-add}
 use native.Mathlib.Omega.{arith}
 use borrow.Author.Tests.{lt-ltb}
-use lib.ListN.{length, take, drop, set, length-set, take-append-drop}
+use lib.ListN.{length, take, drop, set, length-set, length-take, take-append-drop}
 use lib.Seq.{take-suc-set, drop-set-lt, take-append-seam, drop-append-seam}
 use Rattle.page.specs.Page.{Page, page, and, _▷_}
 
@@ -38,3 +38,10 @@ whole bs out out' n l h e =
 -- a contract `page out' r ≡ ..` leaves one page and one count
 pub one : (o o' : List ℕ) (r r' : ℕ) (p : Page) → page o r ≡ p → page o' r' ≡ p → (o ≡ o') × (r ≡ r')
 one o o' r r' p e f = (cc, cc)
+
+-- a contract that gives the first r bytes of a page, fewer than all, and leaves the rest as it was, leaves one count and one page
+pub only : (bs out p q : List ℕ) (m n : ℕ) → length bs < 4096 → length p ≡ 4096 → length q ≡ 4096
+    → (take m p ≡ bs) × (drop m p ≡ drop m out) → (take n q ≡ bs) × (drop n q ≡ drop n out) → (m ≡ n) × (p ≡ q)
+only bs out p q m n h lp lq a b =
+    let i : m ≡ n = omega (arith, ap length (a .0), ap length (b .0), length-take m p, length-take n q) in
+    (i, sym (take-append-drop m p) ∙ (rw (a .0, a .1, i, ← b .0, ← b .1) (take-append-drop n q)))

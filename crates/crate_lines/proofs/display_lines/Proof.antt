@@ -11,7 +11,7 @@ returns c =
     let c3 = c .before .before in
     let c2 = c3 .before .before in
     let c1 = c2 .before .before in
-    line (c1 .input-line .ensures so c2 .size-line .ensures so c3 .gamma-line .ensures so c .dpms-line .ensures so done)
+    line (c1 .input-line .ensures so c2 .size-line .ensures so c3 .gamma-line .ensures so c .features-line .ensures so done)
 
 pub display-lines-spec : {M : Type 1} → statement M
 display-lines-spec =

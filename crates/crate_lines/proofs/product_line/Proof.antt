@@ -8,11 +8,7 @@ use Rattle.crate_lines.proofs.product_line.Tie as tie
 returns : tie.Need-returns
 unfolding productLine
 returns c =
-    let c8 = c .before .before in
-    let c7 = c8 .before .before in
-    let c6 = c7 .before .before in
-    let c5 = c6 .before .before in
-    let c4 = c5 .before .before in
+    let c4 = c .before .before in
     let c3 = c4 .before .before in
     let c2 = c3 .before .before in
     let c1 = c2 .before .before in
@@ -21,20 +17,12 @@ returns c =
     c2 .field8 .ensures so
     c3 .field82 .ensures so
     c4 .field83 .ensures so
-    c5 .field16 .ensures so
-    c6 .field32 .ensures so
-    c7 .field84 .ensures so
-    c8 .field162 .ensures so
-    c .newline .ensures so done)
+    c .product-numbers .ensures so done)
 
 pub product-line-spec : {M : Type 1} → statement M
 product-line-spec =
     tie.close
     (tie.spec
-    (search needs)
-    (search needs)
-    (search needs)
-    (search needs)
     (search needs)
     (search needs)
     (search needs)

@@ -1,6 +1,5 @@
 -- `crate_slot_lines::descriptor_line` meets its contract. Assumes nothing.
 use borrow.Author.Needs.{needs}
-use Rattle.page.specs.Laws.{_so_, done, line}
 use Rattle.crate_slot_lines.specs.Lines.{descriptorLine}
 use Rattle.crate_slot_lines.proofs.descriptor_line.Statement.{statement}
 use Rattle.crate_slot_lines.proofs.descriptor_line.Tie as tie
@@ -23,28 +22,16 @@ returns-4 c = rw (c .before .before .before .before .t4 .given .1) (c .text-line
 
 returns-5 : tie.Need-returns-5
 unfolding descriptorLine
-returns-5 c =
-    let c2 = c .before .before in
-    let c1 = c2 .before .before in
-    rw (c1 .before .before .before .before .t5 .given .1)
-    (line (c1 .bytes .ensures so c2 .raw .ensures so c .newline .ensures so done))
+returns-5 c = rw (c .before .before .before .before .t5 .given .1) (c .raw-line .ensures)
 
 returns-6 : tie.Need-returns-6
 unfolding descriptorLine
-returns-6 c =
-    let c2 = c .before .before in
-    let c1 = c2 .before .before in
-    rw (c1 .before .before .before .before .t6 .given .1)
-    (line (c1 .bytes2 .ensures so c2 .raw2 .ensures so c .newline2 .ensures so done))
+returns-6 c = rw (c .before .before .before .before .t6 .given .1) (c .raw-line2 .ensures)
 
 pub descriptor-line-spec : {M : Type 1} → statement M
 descriptor-line-spec =
     tie.close
     (tie.spec
-    (search needs)
-    (search needs)
-    (search needs)
-    (search needs)
     (search needs)
     (search needs)
     (search needs)

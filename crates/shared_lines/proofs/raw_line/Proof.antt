@@ -1,0 +1,16 @@
+-- `shared_lines::raw_line` meets its contract. Assumes nothing.
+use borrow.Author.Needs.{needs}
+use Rattle.page.specs.Laws.{_so_, done, line}
+use Rattle.shared_lines.specs.Lines.{rawLine}
+use Rattle.shared_lines.proofs.raw_line.Statement.{statement}
+use Rattle.shared_lines.proofs.raw_line.Tie as tie
+
+returns : tie.Need-returns
+unfolding rawLine
+returns c =
+    let c2 = c .before .before in
+    let c1 = c2 .before .before in
+    line (c1 .bytes .ensures so c2 .raw .ensures so c .newline .ensures so done)
+
+pub raw-line-spec : {M : Type 1} → statement M
+raw-line-spec = tie.close (tie.spec (search needs) (search needs) (search needs) returns)

@@ -1,0 +1,120 @@
+-- The listing of the standard reading: what each line is, byte for byte, and their order.
+use Prim.Native.Nat.{ℕ, min}
+use mathlib.Core.Bool.{cond}
+use mathlib.Core.List.{List, [], _∷_, _++_}
+use lib.Dec.{eqb}
+use lib.ListN.{take}
+use Rattle.page.specs.Words.{text, space, newline, field16, field8, flat, each}
+use Rattle.shared_lines.specs.Lines.{productNumbers, versionLine, inputFlags, digitalLine, dpmsLine, establishedLine, extensionsLine, refuseLine}
+use Rattle.standard_slot_lines.specs.Lines.{detailedLines, descriptorLines}
+use Rattle.standard_record.specs.declared.Product.{Product}
+use Rattle.standard_record.specs.declared.VideoInput.{VideoInput}
+use Rattle.standard_record.specs.declared.VideoInput.the-variants.{Analog, Digital}
+use Rattle.standard_record.specs.declared.ImageSize.{ImageSize}
+use Rattle.standard_record.specs.declared.ImageSize.the-variants as Size
+use Rattle.standard_record.specs.declared.Gamma.{Gamma}
+use Rattle.standard_record.specs.declared.Gamma.the-variants as Gamma
+use Rattle.standard_record.specs.declared.DisplayType.{DisplayType}
+use Rattle.standard_record.specs.declared.DisplayType.the-variants as Kind
+use Rattle.standard_record.specs.declared.Features.{Features}
+use Rattle.standard_record.specs.declared.Display.{Display}
+use Rattle.standard_record.specs.declared.Chromaticities.{Chromaticities}
+use Rattle.standard_record.specs.declared.WhitePoint.{WhitePoint}
+use Rattle.standard_record.specs.declared.WhitePoints.{WhitePoints}
+use Rattle.standard_record.specs.declared.StandardTiming.{StandardTiming}
+use Rattle.standard_record.specs.declared.StandardTimings.{StandardTimings}
+use Rattle.standard_record.specs.declared.StandardRecord.{StandardRecord}
+use Rattle.standard_record.specs.declared.Verdict.{Verdict}
+use Rattle.standard_record.specs.declared.Verdict.the-variants.{Accepted, Refused}
+use Rattle.standard_record.specs.declared.StandardReading.{StandardReading}
+
+-- the letter itself, or 0
+unfoldable pub letter : ℕ → List ℕ
+letter b = cond (eqb b 0) (text " 0") (space ++ (b ∷ []))
+
+unfoldable pub productLine : Product → List ℕ
+productLine p = flat (
+    text "product" ∷ letter (p .maker .0) ∷ letter (p .maker .1) ∷ letter (p .maker .2) ∷
+    productNumbers (p .code) (p .serial) (p .week) (p .year) ∷ [])
+
+-- ---- display
+
+unfoldable pub inputLine : VideoInput → List ℕ
+inputLine (Analog level setup sync) = flat (
+    text "analog" ∷ field8 level ∷
+    inputFlags setup (sync .serrated) (sync .green) (sync .composite) (sync .separate) ∷ [])
+inputLine (Digital dfp) = digitalLine dfp
+
+unfoldable pub sizeLine : ImageSize → List ℕ
+sizeLine Size.None = text "size none\n"
+sizeLine (Size.Some s) = flat (text "size" ∷ field16 (s .width) ∷ field16 (s .height) ∷ newline ∷ [])
+
+unfoldable pub gamma : Gamma → List ℕ
+gamma Gamma.None = text " none"
+gamma (Gamma.Some g) = field16 g
+
+unfoldable pub gammaLine : Gamma → List ℕ
+gammaLine t = flat (text "gamma" ∷ gamma t ∷ newline ∷ [])
+
+-- the stored code
+abbrev pub kind : DisplayType → ℕ
+kind Kind.Monochrome = 0
+kind Kind.RGBColor = 1
+kind Kind.OtherColor = 2
+kind Kind.Undefined = 3
+
+unfoldable pub featuresLine : Features → List ℕ
+featuresLine f = dpmsLine (f .standby) (f .suspend) (f .lowpower) (kind (f .kind)) (f .srgb) (f .preferred) (f .gtf)
+
+unfoldable pub displayLines : Display → List ℕ
+displayLines d = flat (inputLine (d .input) ∷ sizeLine (d .size) ∷ gammaLine (d .gamma) ∷ featuresLine (d .features) ∷ [])
+
+-- ---- colour
+
+unfoldable pub chromaLine : Chromaticities → List ℕ
+chromaLine c = flat (
+    text "chroma" ∷
+    field16 (c .red .x) ∷ field16 (c .red .y) ∷ field16 (c .green .x) ∷ field16 (c .green .y) ∷
+    field16 (c .blue .x) ∷ field16 (c .blue .y) ∷ field16 (c .white .x) ∷ field16 (c .white .y) ∷
+    newline ∷ [])
+
+unfoldable pub whiteLine : WhitePoint → List ℕ
+whiteLine w = flat (
+    text "white" ∷ field8 (w .index) ∷ field16 (w .place .x) ∷ field16 (w .place .y) ∷ gamma (w .gamma) ∷ newline ∷ [])
+
+-- in this list and the others, a length above the list's size counts as that size
+unfoldable pub whiteLines : WhitePoints → List ℕ
+whiteLines l = each whiteLine (take (min (l .len) 6) (l .items))
+
+-- ---- timings
+
+unfoldable pub standardLine : StandardTiming → List ℕ
+standardLine t = flat (
+    text "standard" ∷ field16 (t .width) ∷ field16 (t .ratio .width) ∷ field16 (t .ratio .height) ∷ field16 (t .rate) ∷
+    newline ∷ [])
+
+unfoldable pub standardLines : StandardTimings → List ℕ
+standardLines l = each standardLine (take (min (l .len) 26) (l .items))
+
+-- ---- the whole
+
+-- of the input s
+unfoldable pub recordLines : List ℕ → StandardRecord → List ℕ
+recordLines s e = flat (
+    productLine (e .product) ∷
+    versionLine (e .version .version) (e .version .revision) ∷
+    displayLines (e .display) ∷
+    chromaLine (e .color .basic) ∷
+    whiteLines (e .color .points) ∷
+    establishedLine (e .timings .established .items) (e .timings .established .len) ∷
+    standardLines (e .timings .standard) ∷
+    detailedLines (e .timings .detailed) ∷
+    descriptorLines s (e .descriptors) ∷
+    extensionsLine (e .extensions) ∷ [])
+
+unfoldable pub judgedLines : List ℕ → StandardRecord → Verdict → List ℕ
+judgedLines s e Accepted = flat (text "accept\n" ∷ recordLines s e ∷ [])
+judgedLines s e (Refused f) = refuseLine f
+
+unfoldable pub listingOf : List ℕ → StandardReading → List ℕ
+listingOf s r = judgedLines s (r .edid) (r .end)

@@ -1,0 +1,23 @@
+-- `standard_parts::features_of` meets its contract: by what its callees ensure. Assumes nothing.
+use borrow.Author.Needs.{needs}
+use Rattle.standard_parts.specs.Head.{featuresOf}
+use Rattle.standard_parts.proofs.features_of.Statement.{statement}
+use Rattle.standard_parts.proofs.features_of.Tie as tie
+
+returns : tie.Need-returns
+unfolding featuresOf
+returns c = cc
+
+pub features-of-spec : {M : Type 1} → statement M
+features-of-spec =
+    tie.close
+    (tie.spec
+    (search needs)
+    (search needs)
+    (search needs)
+    (search needs)
+    (search needs)
+    (search needs)
+    (search needs)
+    (search needs)
+    returns)

@@ -1,0 +1,20 @@
+-- `standard_parts::maker_of` meets its contract: by what its callees ensure. Assumes nothing.
+use borrow.Author.Needs.{needs}
+use Rattle.standard_parts.proofs.maker_of.Statement.{statement}
+use Rattle.standard_parts.proofs.maker_of.Tie as tie
+
+returns : tie.Need-returns
+returns c = cc
+
+pub maker-of-spec : {M : Type 1} → statement M
+maker-of-spec =
+    tie.close
+    (tie.spec
+    (search needs)
+    (search needs)
+    (search needs)
+    (search needs)
+    (search needs)
+    (search needs)
+    (search needs)
+    returns)

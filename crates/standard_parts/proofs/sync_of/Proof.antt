@@ -1,0 +1,11 @@
+-- `standard_parts::sync_of` meets its contract: by what its callees ensure. Assumes nothing.
+use borrow.Author.Needs.{needs}
+use Rattle.standard_parts.proofs.sync_of.Statement.{statement}
+use Rattle.standard_parts.proofs.sync_of.Tie as tie
+
+returns : tie.Need-returns
+returns c = cc
+
+pub sync-of-spec : {M : Type 1} → statement M
+sync-of-spec =
+    tie.close (tie.spec (search needs) (search needs) (search needs) (search needs) returns)

@@ -1,0 +1,19 @@
+-- A text: its bytes up to the first 0x0a, and what stands behind it.
+use Prim.Native.Nat.{ℕ, zero, suc, _+_}
+use mathlib.Core.Bool.{Bool, true, false, cond}
+use mathlib.Core.List.{List, [], _∷_}
+use lib.Dec.{eqb}
+use lib.ListN.{drop}
+
+-- how many bytes stand before the first 0x0a
+abbrev pub textLength : List ℕ → ℕ
+textLength [] = 0
+textLength (b ∷ bs) = cond (eqb b 0x0a) 0 (suc (textLength bs))
+
+abbrev pub allSpaces : List ℕ → Bool
+allSpaces [] = true
+allSpaces (b ∷ bs) = cond (eqb b 0x20) (allSpaces bs) false
+
+-- what follows the 0x0a is 0x20 throughout
+abbrev pub isPadded : List ℕ → Bool
+isPadded bs = allSpaces (drop (textLength bs + 1) bs)

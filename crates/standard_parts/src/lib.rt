@@ -1,0 +1,464 @@
+// What the standard reading makes of the bytes of each field, by E-EDID structure 1.3. Nothing here knows where a slot stands:
+// bytes are named by their place in the block or in their slot.
+use standard_record::Chromaticities;
+use standard_record::Chromaticity;
+use standard_record::DetailedTiming;
+use standard_record::DisplayType;
+use standard_record::EstablishedTimings;
+use standard_record::Features;
+use standard_record::Gamma;
+use standard_record::ImageSize;
+use standard_record::InputSync;
+use standard_record::Limits;
+use standard_record::Maker;
+use standard_record::Product;
+use standard_record::Ratio;
+use standard_record::SecondaryTiming;
+use standard_record::StandardTiming;
+use standard_record::Sync;
+use standard_record::SyncLine;
+use standard_record::VideoInput;
+use standard_record::WhitePoint;
+use steps::Span;
+use timing::AcrossRead;
+use timing::Border;
+use timing::DownRead;
+use timing::Size;
+use timing::StereoType;
+ghost use mathlib.Core.Path.{_≡_};
+ghost use Prim.Native.Nat.{_≤_};
+ghost use Rattle.standard_record.specs.Lists.{establishedTimings};
+ghost use Rattle.standard_parts.specs.Head.{letterOf, makerOf, productOf, inputOf, imageOf, gammaOf, typeOf, featuresOf};
+ghost use Rattle.standard_parts.specs.Color.{placeOf, colorsOf, pointOf};
+ghost use Rattle.standard_parts.specs.Timings.{flagsOf, ratioOf, pairOf, lineOf, syncBy, syncOf, timedBy};
+ghost use Rattle.standard_parts.specs.Descriptors.{limitsOf, secondaryOf, closingOf, reservedOf};
+ghost use Rattle.standard_parts.specs.Text.{textLength, allSpaces, isPadded};
+
+// What two bytes of a standard timing say.
+pub enum Pair {
+    Skipped,
+    Listed(StandardTiming),
+}
+
+// What five bytes of an fb slot say.
+pub enum Point {
+    Skipped,
+    Listed(WhitePoint),
+}
+
+// `Over`: sync and front porch exceed the blanking on one axis.
+pub enum Timed {
+    Is(DetailedTiming),
+    Over,
+}
+
+// ---- the head
+
+fn letter_of(code: u16) -> u8
+    ensures { λ r. ⌜ r ≡ letterOf code ⌝ }
+{
+    if 1 <= code {
+        if code <= 26 { 64 + code as u8 } else { 0 }
+    } else {
+        0
+    }
+}
+
+fn maker_of(b8: u8, b9: u8) -> Maker
+    ensures { λ r. ⌜ r ≡ makerOf b8 b9 ⌝ }
+{
+    let v = bits::word(b9, b8);
+    Maker(
+        letter_of(bits::digits16(v, 10, 5)),
+        letter_of(bits::digits16(v, 5, 5)),
+        letter_of(bits::digits16(v, 0, 5)),
+    )
+}
+
+pub fn product_of(
+    b8: u8,
+    b9: u8,
+    b10: u8,
+    b11: u8,
+    b12: u8,
+    b13: u8,
+    b14: u8,
+    b15: u8,
+    b16: u8,
+    b17: u8,
+) -> Product
+    ensures { λ r. ⌜ r ≡ productOf b8 b9 b10 b11 b12 b13 b14 b15 b16 b17 ⌝ }
+{
+    Product {
+        maker: maker_of(b8, b9),
+        code: bits::word(b10, b11),
+        serial: bits::long(bits::word(b12, b13), bits::word(b14, b15)),
+        week: b16,
+        year: b17 as u16 + 1990,
+    }
+}
+
+pub fn input_of(b20: u8) -> VideoInput
+    ensures { λ r. ⌜ r ≡ inputOf b20 ⌝ }
+{
+    if bits::is_set(b20, 7) {
+        VideoInput::Digital {
+            dfp: bits::is_set(b20, 0),
+        }
+    } else {
+        VideoInput::Analog {
+            level: bits::digits(b20, 5, 2),
+            setup: bits::is_set(b20, 4),
+            sync: InputSync {
+                serrated: bits::is_set(b20, 3),
+                green: bits::is_set(b20, 2),
+                composite: bits::is_set(b20, 1),
+                separate: bits::is_set(b20, 0),
+            },
+        }
+    }
+}
+
+pub fn image_of(b21: u8, b22: u8) -> ImageSize
+    ensures { λ r. ⌜ r ≡ imageOf b21 b22 ⌝ }
+{
+    if b21 == 0 {
+        return ImageSize::None;
+    }
+    if b22 == 0 {
+        return ImageSize::None;
+    }
+    ImageSize::Some(Size {
+        width: b21 as u16 * 10,
+        height: b22 as u16 * 10,
+    })
+}
+
+pub fn gamma_of(b: u8) -> Gamma
+    ensures { λ r. ⌜ r ≡ gammaOf b ⌝ }
+{
+    if b == 0xff {
+        Gamma::None
+    } else {
+        Gamma::Some(b as u16 + 100)
+    }
+}
+
+fn type_of(code: u8) -> DisplayType
+    ensures { λ r. ⌜ r ≡ typeOf code ⌝ }
+{
+    match code {
+        0 => DisplayType::Monochrome,
+        1 => DisplayType::RGBColor,
+        2 => DisplayType::OtherColor,
+        _ => DisplayType::Undefined,
+    }
+}
+
+pub fn features_of(b24: u8) -> Features
+    ensures { λ r. ⌜ r ≡ featuresOf b24 ⌝ }
+{
+    Features {
+        standby: bits::is_set(b24, 7),
+        suspend: bits::is_set(b24, 6),
+        lowpower: bits::is_set(b24, 5),
+        kind: type_of(bits::digits(b24, 3, 2)),
+        srgb: bits::is_set(b24, 2),
+        preferred: bits::is_set(b24, 1),
+        gtf: bits::is_set(b24, 0),
+    }
+}
+
+// ---- colour
+
+fn place_high(low: u8, x: u8, y: u8) -> Chromaticity
+    ensures { λ r. ⌜ r ≡ placeOf low 4 x y ⌝ }
+{
+    Chromaticity {
+        x: bits::stack(x, bits::digits(low, 6, 2), 2),
+        y: bits::stack(y, bits::digits(low, 4, 2), 2),
+    }
+}
+
+fn place_low(low: u8, x: u8, y: u8) -> Chromaticity
+    ensures { λ r. ⌜ r ≡ placeOf low 0 x y ⌝ }
+{
+    Chromaticity {
+        x: bits::stack(x, bits::digits(low, 2, 2), 2),
+        y: bits::stack(y, bits::digits(low, 0, 2), 2),
+    }
+}
+
+pub fn colors_of(
+    b25: u8,
+    b26: u8,
+    b27: u8,
+    b28: u8,
+    b29: u8,
+    b30: u8,
+    b31: u8,
+    b32: u8,
+    b33: u8,
+    b34: u8,
+) -> Chromaticities
+    ensures { λ r. ⌜ r ≡ colorsOf b25 b26 b27 b28 b29 b30 b31 b32 b33 b34 ⌝ }
+{
+    Chromaticities {
+        red: place_high(b25, b27, b28),
+        green: place_low(b25, b29, b30),
+        blue: place_high(b26, b31, b32),
+        white: place_low(b26, b33, b34),
+    }
+}
+
+pub fn point_of(index: u8, low: u8, x: u8, y: u8, gamma: u8) -> Point
+    ensures { λ r. ⌜ r ≡ pointOf index low x y gamma ⌝ }
+{
+    if index == 0 {
+        Point::Skipped
+    } else {
+        Point::Listed(WhitePoint {
+            index,
+            place: place_low(low, x, y),
+            gamma: gamma_of(gamma),
+        })
+    }
+}
+
+// ---- timings
+
+// Each flag is tested by a shift and a mask; those that are set are listed by their numbers.
+pub fn established_of(b35: u8, b36: u8, b37: u8) -> EstablishedTimings
+    ensures { λ r. ⌜ r ≡ establishedTimings (flagsOf b35 b36 b37) ⌝ }
+{
+    let v = bits::word(b35, b36);
+    let mut items = [0u8; 17];
+    let mut len = 0;
+    let mut k: u8 = 0;
+    while k < 16 {
+        if bits::is_set16(v, k) {
+            if len < 17 {
+                items[len] = k;
+                len += 1;
+            }
+        }
+        k += 1;
+    }
+    if bits::is_set(b37, 7) {
+        if len < 17 {
+            items[len] = 16;
+            len += 1;
+        }
+    }
+    EstablishedTimings { items, len }
+}
+
+fn ratio_of(code: u8) -> Ratio
+    ensures { λ r. ⌜ r ≡ ratioOf code ⌝ }
+{
+    match code {
+        0 => Ratio {
+            width: 16,
+            height: 10,
+        },
+        1 => Ratio {
+            width: 4,
+            height: 3,
+        },
+        2 => Ratio {
+            width: 5,
+            height: 4,
+        },
+        _ => Ratio {
+            width: 16,
+            height: 9,
+        },
+    }
+}
+
+pub fn pair_of(low: u8, high: u8) -> Pair
+    ensures { λ r. ⌜ r ≡ pairOf low high ⌝ }
+{
+    if bits::word(low, high) == 0x0101 {
+        Pair::Skipped
+    } else {
+        Pair::Listed(StandardTiming {
+            width: (low as u16 + 31) * 8,
+            ratio: ratio_of(bits::digits(high, 6, 2)),
+            rate: bits::digits(high, 0, 6) as u16 + 60,
+        })
+    }
+}
+
+fn line_of(rgb: bool) -> SyncLine
+    ensures { λ r. ⌜ r ≡ lineOf rgb ⌝ }
+{
+    if rgb { SyncLine::RGB } else { SyncLine::Green }
+}
+
+fn sync_by(code: u8, two: bool, one: bool) -> Sync
+    ensures { λ r. ⌜ r ≡ syncBy code two one ⌝ }
+{
+    let line = line_of(one);
+    let polarity = timing::polarity_of(one);
+    let vertical = timing::polarity_of(two);
+    match code {
+        0 => Sync::AnalogComposite {
+            serrated: two,
+            line,
+        },
+        1 => Sync::BipolarAnalogComposite {
+            serrated: two,
+            line,
+        },
+        2 => Sync::DigitalComposite {
+            serrated: two,
+            polarity,
+        },
+        _ => Sync::DigitalSeparate {
+            horizontal: polarity,
+            vertical,
+        },
+    }
+}
+
+pub fn sync_of(b17: u8) -> Sync
+    ensures { λ r. ⌜ r ≡ syncOf b17 ⌝ }
+{
+    sync_by(
+        bits::digits(b17, 3, 2),
+        bits::is_set(b17, 2),
+        bits::is_set(b17, 1),
+    )
+}
+
+pub fn timed_by(
+    h: AcrossRead,
+    v: DownRead,
+    clock: u32,
+    size: Size,
+    border: Border,
+    interlaced: bool,
+    stereo: StereoType,
+    sync: Sync,
+) -> Timed
+    ensures { λ r. ⌜ r ≡ timedBy h v clock size border interlaced stereo sync ⌝ }
+{
+    let AcrossRead::Fits(across) = h else {
+        return Timed::Over;
+    };
+    let DownRead::Fits(down) = v else {
+        return Timed::Over;
+    };
+    Timed::Is(DetailedTiming {
+        clock,
+        across,
+        down,
+        size,
+        border,
+        interlaced,
+        stereo,
+        sync,
+    })
+}
+
+// ---- descriptors
+
+pub fn limits_of(b5: u8, b6: u8, b7: u8, b8: u8, b9: u8) -> Limits
+    ensures { λ r. ⌜ r ≡ limitsOf b5 b6 b7 b8 b9 ⌝ }
+{
+    Limits {
+        vmin: b5,
+        vmax: b6,
+        hmin: b7 as u32 * 1000,
+        hmax: b8 as u32 * 1000,
+        clock: b9 as u32 * 10000000,
+    }
+}
+
+pub fn secondary_of(
+    kind: u8,
+    b12: u8,
+    b13: u8,
+    b14: u8,
+    b15: u8,
+    b16: u8,
+    b17: u8,
+    rest: Span,
+) -> SecondaryTiming
+    ensures { λ r. ⌜ r ≡ secondaryOf kind b12 b13 b14 b15 b16 b17 rest ⌝ }
+{
+    match kind {
+        0 => SecondaryTiming::None,
+        2 => SecondaryTiming::GTF {
+            start: b12 as u32 * 2000,
+            c: b13,
+            m: bits::word(b14, b15),
+            k: b16,
+            j: b17,
+        },
+        _ => SecondaryTiming::Other { kind, data: rest },
+    }
+}
+
+pub fn closing_of(b: u8, spaces: bool) -> u8
+    ensures { λ r. ⌜ r ≡ closingOf b spaces ⌝ }
+{
+    if b == 0x0a {
+        if spaces { 0 } else { 5 }
+    } else {
+        4
+    }
+}
+
+pub fn reserved_of(kind: u8, b11: u8, spaces: bool) -> u8
+    ensures { λ r. ⌜ r ≡ reservedOf kind b11 spaces ⌝ }
+{
+    match kind {
+        0 => closing_of(b11, spaces),
+        2 => { if b11 == 0 { 0 } else { 4 } }
+        _ => 0,
+    }
+}
+
+// ---- texts
+
+// The loop yields the place of the first 0x0a, or the end.
+pub fn text_length(s: &[u8]) -> usize
+    ensures { λ r. ⌜ r ≡ textLength (now (s .entry)) ⌝ }
+{
+    let mut i = 0;
+    loop {
+        if i >= s.len() {
+            break i;
+        }
+        if s[i] == 0x0a {
+            break i;
+        }
+        i += 1;
+    }
+}
+
+pub fn all_spaces(s: &[u8]) -> bool
+    ensures { λ r. ⌜ r ≡ allSpaces (now (s .entry)) ⌝ }
+{
+    let mut i = 0;
+    while i < s.len() {
+        if s[i] != 0x20 {
+            return false;
+        }
+        i += 1;
+    }
+    true
+}
+
+pub fn is_padded(s: &[u8]) -> bool
+    ensures { λ r. ⌜ r ≡ isPadded (now (s .entry)) ⌝ }
+{
+    let n = text_length(s);
+    if n < s.len() {
+        all_spaces(&s[n + 1..])
+    } else {
+        true
+    }
+}

@@ -1,0 +1,4 @@
+-- What the contracts of the standard reading say of its record.
+pub mod Filler
+pub mod Lists
+pub mod Seen

@@ -1,0 +1,76 @@
+-- How long the lines of the slots can be.
+use Prim.Native.Nat.{ℕ, _≤_, min}
+use mathlib.Core.List.{List}
+use native.Mathlib.Omega.{arith}
+use lib.ListN.{length, take, length-append, length-take}
+use Rattle.page.specs.Words.{text, flat}
+use Rattle.page.specs.Lengths.{field32-length, field16-length, field8-length, flag-length, each-length}
+use Rattle.shared_lines.specs.Short.{axes-length, border-length, polarity-length, text-length, raw-length, run-length, limits-length}
+use Rattle.standard_record.specs.declared.Sync.{Sync}
+use Rattle.standard_record.specs.declared.Sync.the-variants.{AnalogComposite, BipolarAnalogComposite, DigitalComposite, DigitalSeparate}
+use Rattle.standard_record.specs.declared.DetailedTiming.{DetailedTiming}
+use Rattle.standard_record.specs.declared.DetailedTimings.{DetailedTimings}
+use Rattle.standard_record.specs.declared.Limits.{Limits}
+use Rattle.standard_record.specs.declared.SecondaryTiming.{SecondaryTiming}
+use Rattle.standard_record.specs.declared.SecondaryTiming.the-variants as Secondary
+use Rattle.standard_record.specs.declared.Descriptor.{Descriptor}
+use Rattle.standard_record.specs.declared.Descriptor.the-variants.{Serial, Text, Range, Name, Undefined, MakerDefined}
+use Rattle.standard_record.specs.declared.Held.{Held}
+use Rattle.standard_record.specs.declared.Descriptors.{Descriptors}
+use Rattle.standard_slot_lines.specs.Lines.{line, sync, detailedLine, detailedLines, secondary, rangeLine, descriptorLine, heldLine, descriptorLines}
+
+sync-length : (t : Sync) → length (sync t) ≤ 8
+unfolding sync flat
+sync-length (AnalogComposite b l) = simp length-append (omega (arith, flag-length b, field8-length (line l)))
+sync-length (BipolarAnalogComposite b l) = simp length-append (omega (arith, flag-length b, field8-length (line l)))
+sync-length (DigitalComposite b p) = simp length-append (omega (arith, flag-length b, polarity-length p))
+sync-length (DigitalSeparate h v) = simp length-append (omega (arith, polarity-length h, polarity-length v))
+
+detailed-length : (d : DetailedTiming) → length (detailedLine d) ≤ 106
+unfolding detailedLine flat
+detailed-length d =
+    simp length-append
+    (omega (
+      arith,
+      axes-length (d .clock) (d .across) (d .down),
+      field16-length (d .size .width),
+      field16-length (d .size .height),
+      border-length (d .border) (d .interlaced) (d .stereo),
+      sync-length (d .sync),
+    ))
+
+pub detailed-lengths : (l : DetailedTimings) → length (detailedLines l) ≤ 424
+unfolding detailedLines
+detailed-lengths l =
+    omega (arith, each-length detailedLine 106 detailed-length (take (min (l .len) 4) (l .items)), length-take (min (l .len) 4) (l .items))
+
+secondary-length : (s : List ℕ) (t : SecondaryTiming) → length (secondary s t) ≤ 37
+unfolding secondary flat
+secondary-length s Secondary.None = omega arith
+secondary-length s (Secondary.GTF start c m k j) =
+    simp length-append (omega (arith, field32-length start, field8-length c, field16-length m, field8-length k, field8-length j))
+secondary-length s (Secondary.Other kind d) = simp length-append (omega (arith, raw-length s kind d))
+
+range-length : (s : List ℕ) (l : Limits) (t : SecondaryTiming) → length (rangeLine s l t) ≤ 84
+unfolding rangeLine flat
+range-length s l t =
+    simp length-append
+    (omega (arith, limits-length (l .vmin) (l .vmax) (l .hmin) (l .hmax) (l .clock), secondary-length s t))
+
+descriptor-length : (s : List ℕ) (t : Descriptor) → length (descriptorLine s t) ≤ 84
+unfolding descriptorLine flat
+descriptor-length s (Serial d) = omega (arith, text-length (text "serial") d)
+descriptor-length s (Text d) = omega (arith, text-length (text "text") d)
+descriptor-length s (Range l t) = range-length s l t
+descriptor-length s (Name d) = omega (arith, text-length (text "name") d)
+descriptor-length s (Undefined tag d) = omega (arith, run-length (text "undefined") s tag d)
+descriptor-length s (MakerDefined tag d) = omega (arith, run-length (text "maker") s tag d)
+
+held-length : (s : List ℕ) (h : Held) → length (heldLine s h) ≤ 84
+unfolding heldLine
+held-length s h = descriptor-length s (h .descriptor)
+
+pub descriptor-lengths : (s : List ℕ) (l : Descriptors) → length (descriptorLines s l) ≤ 252
+unfolding descriptorLines
+descriptor-lengths s l =
+    omega (arith, each-length (heldLine s) 84 (held-length s) (take (min (l .len) 3) (l .items)), length-take (min (l .len) 3) (l .items))

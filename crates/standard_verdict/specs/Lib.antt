@@ -1,0 +1,3 @@
+-- The definition of the standard reading's verdict.
+pub mod Slot
+pub mod Verdict

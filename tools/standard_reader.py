@@ -1,0 +1,194 @@
+#!/usr/bin/env python3
+"""The standard reading of EDID blocks, written from document 01 alone: the expected output of the replay.
+
+Standard input holds frames: a length of two bytes, the low one first, then that many bytes. Standard output gets each frame's
+listing, then `--`.
+"""
+import sys
+
+HEADER = bytes.fromhex("00ffffffffffff00")
+SLOTS = (54, 72, 90, 108)
+RATIOS = ((16, 10), (4, 3), (5, 4), (16, 9))
+# by bits 6, 5 and 0 of a timing's last byte
+STEREO = {(0, 0, 0): 0, (0, 0, 1): 0, (0, 1, 0): 1, (1, 0, 0): 2, (0, 1, 1): 3, (1, 0, 1): 4, (1, 1, 0): 5, (1, 1, 1): 6}
+TEXTS = {0xFC: "name", 0xFE: "text", 0xFF: "serial"}
+
+
+class Refused(Exception):
+    """A number and a position."""
+
+
+def bits(byte, high, low):
+    return byte >> low & (1 << high - low + 1) - 1
+
+
+def bit(byte, k):
+    return bits(byte, k, k)
+
+
+def flags(byte, *ks):
+    return [bit(byte, k) for k in ks]
+
+
+def little(part):
+    return int.from_bytes(part, "little")
+
+
+def line(*words):
+    return " ".join(str(word) for word in words)
+
+
+def product(block):
+    code = int.from_bytes(block[8:10], "big")
+    letters = [code >> shift & 31 for shift in (10, 5, 0)]
+    letters = [chr(ord("A") + k - 1) if 1 <= k <= 26 else 0 for k in letters]
+    return line("product", *letters, little(block[10:12]), little(block[12:16]), block[16], block[17] + 1990)
+
+
+def video(byte):
+    if bit(byte, 7):
+        return line("digital", bit(byte, 0))
+    return line("analog", bits(byte, 6, 5), *flags(byte, 4, 3, 2, 1, 0))
+
+
+def gamma(byte):
+    return "none" if byte == 0xFF else byte + 100
+
+
+def chroma(block):
+    lows = [bits(block[25 + k // 4], 7 - 2 * (k % 4), 6 - 2 * (k % 4)) for k in range(8)]
+    return line("chroma", *(high * 4 + low for high, low in zip(block[27:35], lows)))
+
+
+def established(block):
+    value = little(block[35:37])
+    numbers = [k for k in range(16) if value >> k & 1] + [16] * bit(block[37], 7)
+    return line("established", *numbers)
+
+
+def pairs(part):
+    for low, high in zip(part[0::2], part[1::2]):
+        if (low, high) != (1, 1):
+            yield line("standard", (low + 31) * 8, *RATIOS[high >> 6], high % 64 + 60)
+
+
+def axis(active, blanking, front, sync, at):
+    if sync + front > blanking:
+        raise Refused(6, at)
+    return active, front, sync, blanking - sync - front
+
+
+def sync(byte):
+    kind = bits(byte, 4, 3)
+    if kind == 3:
+        return kind, bit(byte, 1), bit(byte, 2)
+    return kind, bit(byte, 2), bit(byte, 1)
+
+
+def detailed(slot, at):
+    b = slot
+    across = axis(b[2] + 256 * bits(b[4], 7, 4), b[3] + 256 * bits(b[4], 3, 0),
+                  b[8] + 256 * bits(b[11], 7, 6), b[9] + 256 * bits(b[11], 5, 4), at)
+    down = axis(b[5] + 256 * bits(b[7], 7, 4), b[6] + 256 * bits(b[7], 3, 0),
+                bits(b[10], 7, 4) + 16 * bits(b[11], 3, 2), bits(b[10], 3, 0) + 16 * bits(b[11], 1, 0), at)
+    porches = [number for both in zip(across, down) for number in both]
+    size = (b[12] + 256 * bits(b[14], 7, 4), b[13] + 256 * bits(b[14], 3, 0))
+    stereo = STEREO[tuple(flags(b[17], 6, 5, 0))]
+    return line("detailed", little(b[0:2]) * 10000, *porches, *size, b[15], b[16], bit(b[17], 7), stereo, *sync(b[17]))
+
+
+def must(part, byte, number, at):
+    if any(other != byte for other in part):
+        raise Refused(number, at)
+
+
+def white(part):
+    index, low, x, y, power = part
+    if index:
+        yield line("white", index, x * 4 + bits(low, 3, 2), y * 4 + bits(low, 1, 0), gamma(power))
+
+
+def secondary(slot, at):
+    kind = slot[10]
+    if kind == 0:
+        must(slot[11:12], 0x0A, 4, at)
+        must(slot[12:18], 0x20, 5, at)
+        return ["none"]
+    if kind == 2:
+        must(slot[11:12], 0x00, 4, at)
+        return ["gtf", slot[12] * 2000, slot[13], little(slot[14:16]), slot[16], slot[17]]
+    return ["other", kind, slot[11:18].hex()]
+
+
+def text(name, part, at):
+    length = part.find(0x0A)
+    if length < 0:
+        length = 13
+    must(part[length + 1:], 0x20, 5, at)
+    return line(name, at + 5, length)
+
+
+def descriptor(slot, at, lists):
+    tag, data = slot[3], slot[5:18]
+    if tag == 0xFA:
+        must(slot[17:18], 0x0A, 4, at)
+        lists["standard"] += pairs(data[:12])
+    elif tag == 0xFB:
+        must(slot[15:16], 0x0A, 4, at)
+        must(slot[16:18], 0x20, 5, at)
+        lists["white"] += [*white(data[:5]), *white(data[5:10])]
+    elif tag in TEXTS:
+        lists["descriptor"].append(text(TEXTS[tag], data, at))
+    elif tag == 0xFD:
+        limits = (slot[5], slot[6], slot[7] * 1000, slot[8] * 1000, slot[9] * 10000000)
+        lists["descriptor"].append(line("range", *limits, *secondary(slot, at)))
+    elif tag != 0x10:
+        lists["descriptor"].append(line("maker" if tag < 0x10 else "undefined", tag, data.hex()))
+
+
+def reading(block):
+    for passed, number, at in ((len(block) == 128, 7, 0), (block[:8] == HEADER, 2, 0),
+                               (sum(block) % 256 == 0, 8, 127), (block[18:19] == b"\1", 9, 18)):
+        if not passed:
+            raise Refused(number, at)
+    lists = {"white": [], "standard": list(pairs(block[38:54])), "detailed": [], "descriptor": []}
+    for at in SLOTS:
+        slot = block[at:at + 18]
+        if little(slot[0:2]):
+            lists["detailed"].append(detailed(slot, at))
+        elif at == SLOTS[0]:
+            raise Refused(3, at)
+        else:
+            descriptor(slot, at, lists)
+    features = block[24]
+    return [
+        "accept",
+        product(block),
+        line("version", block[18], block[19]),
+        video(block[20]),
+        line("size", *((block[21] * 10, block[22] * 10) if block[21] and block[22] else ("none",))),
+        line("gamma", gamma(block[23])),
+        line("dpms", *flags(features, 7, 6, 5), bits(features, 4, 3), *flags(features, 2, 1, 0)),
+        chroma(block),
+        *lists["white"],
+        established(block),
+        *lists["standard"],
+        *lists["detailed"],
+        *lists["descriptor"],
+        line("extensions", block[126]),
+    ]
+
+
+def main():
+    rest = sys.stdin.buffer.read()
+    while len(rest) >= 2:
+        length = little(rest[:2])
+        block, rest = rest[2:2 + length], rest[2 + length:]
+        try:
+            lines = reading(block)
+        except Refused as refusal:
+            lines = [line("refuse", *refusal.args)]
+        print(*lines, "--", sep="\n")
+
+
+main()
