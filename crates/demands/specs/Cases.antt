@@ -1,8 +1,8 @@
--- Worked cases, as entries of one list under one claim: the definition's answer on these bytes is this outcome. antt computes each.
+-- Worked cases of the two definitions, as entries of one list under one claim. antt computes each.
 use Prim.Native.Nat.{ℕ}
 use mathlib.Core.Path.{_≡_, refl}
 use mathlib.Core.List.{List, [], _∷_, _++_}
-use lib.ListN.{take, drop, set}
+use lib.ListN.{getD, take, drop, set}
 use lib.Ieee.{ofBits, ofInt, add, div}
 use Rattle.timing.specs.Axis.{acrossOf, downOf}
 use Rattle.steps.specs.Steps.{Outcome, got, refused}
@@ -20,15 +20,52 @@ use Rattle.crate_detailed.specs.Detailed.{syncOf, fitted, axes, timingOf, timed
 use Rattle.crate_descriptors.specs.Descriptors.{spaces, closing, pointOf, point, ended, second, points, white, stringOf, string, rawOf, raw, tagged, descriptor, slot}
 use Rattle.crate_slots.specs.Slots.{only, slots, first, descriptors}
 use Rattle.crate_reading.specs.Reading.{edidOf, reading, answer}
+use Rattle.standard_record.specs.Filler.{blank, blankDetailed}
+use Rattle.standard_record.specs.declared.Maker.{Maker}
+use Rattle.standard_record.specs.declared.StandardReading.{StandardReading}
+use Rattle.standard_parts.specs.Head.{productOf}
+use Rattle.standard_verdict.specs.Slot.{tagNumber, slotNumber}
+use Rattle.standard_verdict.specs.Verdict.{judged, numberOf, placeOf}
+use Rattle.standard_reading.specs.Slot.{timingIn}
+use Rattle.standard_reading.specs.Block.{recordOf, standardOf as blockOf}
 use Rattle.demands.specs.Specimen.{specimen, lobby, holding, named}
 
-pub record Case : Type 0 where
-  pub bytes : List ℕ
-  pub outcome : Outcome EDID
+-- of the standard reading a case looks at the refusal's number and place, the maker, and the pixels of the first timing
+pub record Shown : Type 0 where
+  pub number : ℕ
+  pub place : ℕ
+  pub maker : Maker
+  pub active : ℕ
+
+abbrev pub shown : StandardReading → Shown
+shown r =
+    record {
+      number = numberOf (r .end);
+      place = placeOf (r .end);
+      maker = r .edid .product .maker;
+      active = getD (r .edid .timings .detailed .items) 0 blankDetailed .across .active .0;
+    }
+
+-- accepted, with the maker A B C
+abbrev letters : ℕ → Shown
+letters n = record { number = 0; place = 0; maker = record { 0 = 0x41; 1 = 0x42; 2 = 0x43 }; active = n }
+
+-- the filler beside a number and a place
+abbrev nothing : ℕ → ℕ → Shown
+nothing n p = record { number = n; place = p; maker = record { 0 = 0; 1 = 0; 2 = 0 }; active = 0 }
+
+-- a block, and what one of the two readings makes of it
+pub data Case : Type 0 where
+  crate-reads : List ℕ → Outcome EDID → Case
+  standard-reads : List ℕ → Shown → Case
+
+abbrev pub Holds : Case → Type 0
+Holds (crate-reads s o) = answer s ≡ o
+Holds (standard-reads s v) = shown (blockOf s) ≡ v
 
 abbrev pub Hold : List Case → Type 0
 Hold [] = Unit {0}
-Hold (c ∷ cs) = (answer (c .bytes) ≡ c .outcome) × Hold cs
+Hold (c ∷ cs) = Holds c × Hold cs
 
 -- the specimen with other bytes in place of those from `at` to `end`
 abbrev with : List ℕ → ℕ → ℕ → List ℕ
@@ -53,20 +90,24 @@ six =
 
 unfoldable pub cases : List Case
 cases =
-    record { bytes = shortest; outcome = got (holding (lobby 40 88) noPoints noDescriptors) 88 } ∷
-    record { bytes = longest; outcome = got (holding (lobby 40 88) six noDescriptors) 142 } ∷
-    record { bytes = []; outcome = refused 1 0 } ∷
-    record { bytes = 0x01 ∷ 0xff ∷ 0xff ∷ []; outcome = refused 1 3 } ∷
-    record { bytes = 0x01 ∷ 0xff ∷ 0xff ∷ 0xff ∷ []; outcome = refused 2 4 } ∷
-    record { bytes = specimen; outcome = got (holding (lobby 40 88) noPoints named) 127 } ∷
-    record { bytes = take 127 specimen; outcome = got (holding (lobby 40 88) noPoints named) 127 } ∷
-    record { bytes = take 126 specimen; outcome = refused 1 126 } ∷
-    record { bytes = set specimen 56 0; outcome = refused 3 57 } ∷
-    record { bytes = set specimen 62 0x80; outcome = got (holding (lobby 128 0) noPoints named) 127 } ∷
-    record { bytes = set specimen 62 0x81; outcome = refused 6 66 } ∷
-    record { bytes = set specimen 83 0x21; outcome = refused 5 84 } ∷
-    record { bytes = with (white-slot []) 72 90; outcome = refused 4 93 } ∷ []
+    crate-reads shortest (got (holding (lobby 40 88) noPoints noDescriptors) 88) ∷
+    crate-reads longest (got (holding (lobby 40 88) six noDescriptors) 142) ∷
+    crate-reads [] (refused 1 0) ∷
+    crate-reads (0x01 ∷ 0xff ∷ 0xff ∷ []) (refused 1 3) ∷
+    crate-reads (0x01 ∷ 0xff ∷ 0xff ∷ 0xff ∷ []) (refused 2 4) ∷
+    crate-reads specimen (got (holding (lobby 40 88) noPoints named) 127) ∷
+    crate-reads (take 127 specimen) (got (holding (lobby 40 88) noPoints named) 127) ∷
+    crate-reads (take 126 specimen) (refused 1 126) ∷
+    crate-reads (set specimen 56 0) (refused 3 57) ∷
+    crate-reads (set specimen 62 0x80) (got (holding (lobby 128 0) noPoints named) 127) ∷
+    crate-reads (set specimen 62 0x81) (refused 6 66) ∷
+    crate-reads (set specimen 83 0x21) (refused 5 84) ∷
+    crate-reads (with (white-slot []) 72 90) (refused 4 93) ∷
+    standard-reads specimen (letters 800) ∷
+    standard-reads (take 127 specimen) (nothing 7 0) ∷
+    standard-reads (set specimen 127 0xc4) (nothing 8 127) ∷
+    standard-reads (set (set specimen 56 0) 127 0xe3) (letters 768) ∷ []
 
 pub cases-hold : Hold cases
-unfolding cases shortest longest six specimen lobby holding named byte word long header maker date product version inputOf input sizeOf gammaFrom dpmsOf dpms display color front flag establishedOf established standardOf pairOf pair pairs scan padding skip span text syncOf fitted axes timingOf timed detailed spaces closing pointOf point ended second points white stringOf string rawOf raw tagged descriptor slot only slots first descriptors edidOf reading noFlags pushFlag noStandard pushStandard noDetailed pushDetailed noPoints pushPoint noDescriptors pushDescriptor acrossOf downOf ofBits ofInt add div
-cases-hold = (refl, (refl, (refl, (refl, (refl, (refl, (refl, (refl, (refl, (refl, (refl, (refl, (refl, tt)))))))))))))
+unfolding cases shortest longest six specimen lobby holding named byte word long header maker date product version inputOf input sizeOf gammaFrom dpmsOf dpms display color front flag establishedOf established standardOf pairOf pair pairs scan padding skip span text syncOf fitted axes timingOf timed detailed spaces closing pointOf point ended second points white stringOf string rawOf raw tagged descriptor slot only slots first descriptors edidOf reading blockOf judged recordOf slotNumber tagNumber timingIn productOf blank noFlags pushFlag noStandard pushStandard noDetailed pushDetailed noPoints pushPoint noDescriptors pushDescriptor acrossOf downOf ofBits ofInt add div
+cases-hold = (refl, (refl, (refl, (refl, (refl, (refl, (refl, (refl, (refl, (refl, (refl, (refl, (refl, (refl, (refl, (refl, (refl, tt)))))))))))))))))

@@ -1,7 +1,8 @@
 -- The standard reading of a block, by fixed offsets.
 use Prim.Native.Nat.{ℕ}
-use mathlib.Core.Path.{_≡_, sym, _∙_}
+use mathlib.Core.Path.{_≡_}
 use mathlib.Core.List.{List, _++_}
+use Rattle.steps.specs.One.{one-value}
 use Rattle.standard_record.specs.Filler.{blank}
 use Rattle.standard_record.specs.Lists.{whitePoints, establishedTimings, standardTimings, detailedTimings, descriptors}
 use Rattle.standard_record.specs.declared.Verdict.{Verdict}
@@ -76,9 +77,6 @@ beside (Refused f) r = record { edid = blank; end = Refused f }
 unfoldable pub standardOf : List ℕ → StandardReading
 standardOf s = beside (verdictOf s) (recordOf s)
 
--- At most one value fits a contract that says `r ≡ d` of a definition d, as each public one of the standard reading does.
-pub one-value : {A : Type 0} (d r r′ : A) → r ≡ d → r′ ≡ d → r ≡ r′
-one-value d r r′ e e′ = e ∙ sym e′
-
+-- at most one value fits: each public contract of the standard reading says `r ≡ d` of a definition d
 pub one-reading : (s : List ℕ) (r r′ : StandardReading) → r ≡ standardOf s → r′ ≡ standardOf s → r ≡ r′
-one-reading s = one-value (standardOf s)
+one-reading s r r′ = one-value r r′

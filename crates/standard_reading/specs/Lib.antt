@@ -1,4 +1,3 @@
 -- The definition of the standard reading, and what it comes to.
 pub mod Slot
 pub mod Block
-pub mod Cases
