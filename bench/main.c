@@ -1,0 +1,74 @@
+/* bench SIDE TURNS FILE [time]: calls one side TURNS times on the bytes of FILE and prints its answer; with `time`, the least of 200 such
+ * rounds in ns a call. Each side stands in an object of its own, so that no call is inlined or moved out of the loop. */
+#include <stdio.h>
+#include <stdlib.h>
+#include <string.h>
+#include <time.h>
+#include "edid.h"
+
+typedef uint64_t side(const uint8_t *block, size_t length);
+extern side c_nothing, c_sum, every_field, rust_parse, rust_record;
+
+static uint64_t refusal_number(const uint8_t *block, size_t length) { return edid_refusal_number(block, length); }
+static uint64_t bytes_taken(const uint8_t *block, size_t length) { return edid_bytes_taken(block, length); }
+static uint64_t sum_is_zero(const uint8_t *block, size_t length) { return edid_sum_is_zero(block, length); }
+
+static const struct {
+    const char *name;
+    side *call;
+} sides[] = {
+    {"nothing", c_nothing},
+    {"every_field", every_field},
+    {"refusal_number", refusal_number},
+    {"bytes_taken", bytes_taken},
+    {"sum_is_zero", sum_is_zero},
+    {"rust_record", rust_record},
+    {"rust_parse", rust_parse},
+    {"c_sum", c_sum},
+};
+
+static uint8_t block[4096];
+static size_t length;
+
+static uint64_t round_of(side *call, unsigned long turns)
+{
+    uint64_t last = 0;
+    while (turns-- > 0)
+        last = call(block, length);
+    return last;
+}
+
+static double time_of(side *call, unsigned long turns)
+{
+    struct timespec a, b;
+    clock_gettime(CLOCK_MONOTONIC, &a);
+    round_of(call, turns);
+    clock_gettime(CLOCK_MONOTONIC, &b);
+    return ((double)(b.tv_sec - a.tv_sec) * 1e9 + (double)(b.tv_nsec - a.tv_nsec)) / (double)turns;
+}
+
+int main(int argc, char **argv)
+{
+    FILE *f = argc == 4 || argc == 5 ? fopen(argv[3], "rb") : NULL;
+    if (!f)
+        return 2;
+    length = fread(block, 1, sizeof block, f);
+    side *call = NULL;
+    for (size_t i = 0; i < sizeof sides / sizeof *sides; i++)
+        if (!strcmp(argv[1], sides[i].name))
+            call = sides[i].call;
+    unsigned long turns = strtoul(argv[2], NULL, 10);
+    if (!call || !turns)
+        return 2;
+    if (argc == 4) {
+        printf("%llu\n", (unsigned long long)round_of(call, turns));
+        return 0;
+    }
+    double least = time_of(call, turns);
+    for (int i = 1; i < 200; i++) {
+        double ns = time_of(call, turns);
+        least = ns < least ? ns : least;
+    }
+    printf("%.0f\n", least);
+    return 0;
+}

@@ -1,0 +1,32 @@
+/* The crate reading's answers on one EDID block, for C on x86-64: link target/staticlib/libexports.a, which `rt staticlib exports` proves
+ * and makes.
+ *
+ * Each function reads block[0] to block[length - 1] and nothing else, writes and keeps nothing, and ends for every length and all bytes.
+ * The caller promises that these bytes can be read and do not change meanwhile. With length 0 nothing is read through the pointer, and the
+ * answers are 1, 0 and true. That is proved of a pointer that is not null; of a null pointer with length 0 it is tested by tools/test-c. */
+#ifndef EDID_H
+#define EDID_H
+#include <stdbool.h>
+#include <stddef.h>
+#include <stdint.h>
+
+#ifdef __cplusplus
+extern "C" {
+#endif
+
+/* 0 where the block is accepted, else what a reading byte after byte meets first: 1 no byte left, 2 another header, 3 no timing in the first
+ * slot, 4 no 0x0a (in GTF: no 0x00) where one is due, 5 no 0x20, 6 a back porch below zero. Above 1, no later byte changes it. */
+uint32_t edid_refusal_number(const uint8_t *block, size_t length);
+
+/* How many bytes that reading took, to the end of the record or to its refusal: 88 to 142 where it accepts, length where it meets 1.
+ * Cut to any smaller length, the block is refused with 1, at the cut. */
+size_t edid_bytes_taken(const uint8_t *block, size_t length);
+
+/* Whether all the bytes add up to zero modulo 256, as the 128 of a whole block should.
+ * The other two answers do not depend on it. */
+bool edid_sum_is_zero(const uint8_t *block, size_t length);
+
+#ifdef __cplusplus
+}
+#endif
+#endif
