@@ -42,7 +42,7 @@ def compare(folder, program):
 
 
 def show(fact):
-    return " ".join(str(word) for word in fact if word != "")
+    return " ".join(str(word) for word in fact if word != "").encode("unicode_escape").decode("ascii")
 
 
 def take(facts, wanted):
