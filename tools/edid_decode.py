@@ -1,0 +1,112 @@
+"""Holds the standard reading of a folder of blocks to edid-decode: timings, texts and range limits of the first 128 bytes of each file."""
+import os
+import re
+import shutil
+import struct
+import subprocess
+
+ESTABLISHED = """800x600 60, 800x600 56, 640x480 75, 640x480 72, 640x480 67, 640x480 60, 720x400 88, 720x400 70, 1280x1024 75, 1024x768 75,
+1024x768 70, 1024x768 60, 1024x768i 87, 832x624 75, 800x600 75, 800x600 72, 1152x870 75""".split(",")
+TEXTS = {"Display Product Name": "name", "Alphanumeric Data String": "text", "Display Product Serial Number": "serial"}
+CLASSES = {"GTF": "none", "Secondary GTF": "gtf", "Bare Limits": "other 1", "CVT": "other 4"}
+
+
+def missing():
+    """What has to be installed, if anything."""
+    return None if shutil.which("edid-decode") else "there is no edid-decode; Debian's package edid-decode has it"
+
+
+def compare(folder, program):
+    """Prints where the two part, file by file; the number of files that part."""
+    blocks = {}
+    for name in sorted(e.name for e in os.scandir(folder) if e.is_file() and e.name.endswith(".bin")):
+        with open(os.path.join(folder, name), "rb") as f:
+            blocks[name] = f.read(128)
+    frames = b"".join(struct.pack("<H", len(block)) + block for block in blocks.values())
+    listings = subprocess.run([program], input=frames, stdout=subprocess.PIPE, check=True).stdout.decode("ascii").split("--\n")
+    alike = parting = refused = facts = 0
+    for (name, block), listing in zip(blocks.items(), listings):
+        ours, theirs = our_facts(listing, block), their_facts(block)
+        facts += len(theirs)
+        only = [fact for fact in ours if not take(theirs, fact)]
+        if listing.startswith("refuse"):
+            refused += 1
+            print(f"{name}: {listing.strip()}; edid-decode has {len(theirs)} timings, texts and ranges")
+        elif only or theirs:
+            parting += 1
+            print("\n  ".join([name] + [f"standard reading: {show(fact)}" for fact in only] + [f"edid-decode: {show(fact)}" for fact in theirs]))
+        else:
+            alike += 1
+    print(f"{len(blocks)} blocks, {facts:,} timings, texts and ranges by edid-decode: {alike} blocks alike, {parting} part, {refused} refused")
+    return parting + refused
+
+
+def show(fact):
+    return " ".join(str(word) for word in fact if word != "").encode("unicode_escape").decode("ascii")
+
+
+def take(facts, wanted):
+    """Takes out the first fact that is the wanted one, rates compared to less than 1 Hz; whether there was one."""
+    for k, (kind, what, rate) in enumerate(facts):
+        if (kind, what) == wanted[:2] and (rate == wanted[2] or rate and wanted[2] and abs(rate - wanted[2]) < 1):
+            del facts[k]
+            return True
+    return False
+
+
+def our_facts(listing, block):
+    """A fact is a kind, what it says, and a rate in Hz or nothing."""
+    facts = []
+    for kind, *words in (line.split() for line in listing.splitlines()):
+        if kind == "established":
+            for k in words:
+                size, rate = ESTABLISHED[int(k)].split()
+                facts.append((kind, size, float(rate)))
+        elif kind == "standard":
+            width, across, down, rate = map(int, words)
+            facts.append((kind, f"{width}x{width * down // across}", float(rate)))
+        elif kind == "detailed":
+            facts.append((kind, our_timing(*map(int, words)), ""))
+        elif kind in TEXTS.values():
+            start, length = map(int, words)
+            facts.append((kind, block[start:start + length].decode("latin-1"), ""))
+        elif kind == "range":
+            low, high, low_line, high_line, clock = map(int, words[:5])
+            limit = " ".join(words[5:7]) if words[5] == "other" else words[5]
+            facts.append((kind, f"{low}-{high} Hz {low_line // 1000}-{high_line // 1000} kHz {clock // 10**6} MHz {limit}", ""))
+    return facts
+
+
+def our_timing(clock, width, height, hfront, vfront, hsync, vsync, hback, vback, wide, high, hborder, vborder, interlaced, stereo, kind, one, two):
+    polarity = {2: "-+"[two], 3: "-+"[one] + "-+"[two]}.get(kind, "")
+    size = f"{wide}x{high} mm" if wide or high else ""
+    return f"{width}x{height}{'i' * interlaced} {clock // 1000} kHz {hfront} {hsync} {hback} {vfront} {vsync} {vback} {size} {polarity}"
+
+
+def their_facts(block):
+    text = subprocess.run(["edid-decode", "-s", "-"], input=block, stdout=subprocess.PIPE, stderr=subprocess.DEVNULL).stdout.decode("latin-1")
+    facts, section, timing = [], "", None
+    for line in text.splitlines():
+        if re.match(r" {2}\S", line):
+            section = line.strip()
+        if found := re.match(r" +DTD +\d+: +(\d+x\d+i?) .* (\d+)\.(\d{6}) MHz(.*)", line):
+            size = re.search(r"(\d+) mm x (\d+) mm", found[4])
+            timing = [found[1], f"{found[2]}{found[3][:3]} kHz", f"{size[1]}x{size[2]} mm" if size else ""]
+        elif timing and (found := re.match(r" +Hfront +(-?\d+) Hsync +(\d+) Hback +(-?\d+)(?: Hpol ([PN]))?", line)):
+            timing[2:2], across = found.group(1, 2, 3), sign(found[4])
+        elif timing and (found := re.match(r" +Vfront +(-?\d+) Vsync +(\d+) Vback +(-?\d+)(?: Vpol ([PN]))?", line)):
+            timing[5:5] = found.group(1, 2, 3)
+            facts.append(("detailed", " ".join(timing) + f" {across}{sign(found[4])}", ""))
+            timing = None
+        elif found := re.match(r" +[^:]+: +(\d+x\d+i?) +(\d+\.\d+) Hz ", line):
+            kind = "established" if section == "Established Timings I & II:" else "standard"
+            facts.append((kind, found[1], float(found[2])))
+        elif found := re.match(r" +([^:]+): '(.*)'$", line):
+            facts.append((TEXTS.get(found[1], found[1]), found[2], ""))
+        elif found := re.match(r" +Monitor ranges \((.*)\): (\d+-\d+) Hz V, (\d+-\d+) kHz H(?:, max dotclock (\d+) MHz)?", line):
+            facts.append(("range", f"{found[2]} Hz {found[3]} kHz {found[4] or 0} MHz {CLASSES.get(found[1], found[1])}", ""))
+    return facts
+
+
+def sign(letter):
+    return {"P": "+", "N": "-", None: ""}[letter]
