@@ -4,21 +4,10 @@ fn main() {
     let n = io::read_full(0, &mut buf);
     let mut out = [0u8; 4096];
     let end = list(&mut out, &buf[..n]);
-    print(&out, end);
+    io::write_all(1, frames::start(&out, end));
 }
 
 fn list(out: &mut [u8; 4096], s: &[u8]) -> usize {
     let r = crate_reading::read(s);
     crate_lines::listing(out, s, r)
-}
-
-// The first n bytes of the page, by one write.
-fn print(out: &[u8; 4096], n: usize) -> bool {
-    let s: &[u8] = out;
-    if n <= s.len() {
-        let t = &s[0..n];
-        io::write_all(1, t)
-    } else {
-        false
-    }
 }

@@ -31,7 +31,7 @@ fn answer_one(number: u64) -> bool {
     if read_start(&mut body, n) != n {
         return complain(number, b" is cut short\n");
     }
-    answer(&body, n)
+    answer(frames::start(&body, n))
 }
 
 // Reads n bytes to the start of body, where it has as many.
@@ -43,26 +43,12 @@ fn read_start(body: &mut [u8], n: usize) -> usize {
     }
 }
 
-// Writes the listing of the first n bytes of body; whether that went well.
-fn answer(body: &[u8], n: usize) -> bool {
-    if n <= body.len() {
-        let s = &body[0..n];
-        let mut out = [0u8; 4096];
-        let listed = crate_lines::listing(&mut out, s, crate_reading::read(s));
-        let end = page::bytes(&mut out, listed, b"--\n");
-        write_start(&out, end)
-    } else {
-        false
-    }
-}
-
-fn write_start(out: &[u8; 4096], n: usize) -> bool {
-    let s: &[u8] = out;
-    if n <= s.len() {
-        io::write_all(1, &s[0..n])
-    } else {
-        false
-    }
+// Writes the listing of a frame; whether that went well.
+fn answer(s: &[u8]) -> bool {
+    let mut out = [0u8; 4096];
+    let listed = crate_lines::listing(&mut out, s, crate_reading::read(s));
+    let end = page::bytes(&mut out, listed, b"--\n");
+    io::write_all(1, frames::start(&out, end))
 }
 
 // A line on standard error, and no further frame.
