@@ -3,8 +3,8 @@ use Prim.Native.Nat.{ℕ, _+_, _≤_}
 use mathlib.Core.Bool.{_||_}
 use mathlib.Core.Path.{_≡_}
 use native.Mathlib.Omega.{arith}
-use lib.Dec.{eqb, lit≤}
-use Rattle.steps.specs.Steps.{Steps, done}
+use lib.Dec.{eqb}
+use Rattle.steps.specs.Steps.{done}
 use Rattle.steps.specs.Leaves.{byte, word}
 use Rattle.steps.specs.Answers.{Ends, ends-then, ends-map, ends-pick, Takes, no-byte, takes-then, takes-byte, takes-word}
 use Rattle.timing.specs.Axis.{acrossOf, downOf}

@@ -1,6 +1,6 @@
 -- The block's first 35 bytes, as the source reads them.
-use Prim.Native.Nat.{ℕ, _+_, _*_, _%_}
-use mathlib.Core.Bool.{Bool, _||_}
+use Prim.Native.Nat.{ℕ, _+_, _*_}
+use mathlib.Core.Bool.{_||_}
 use lib.Dec.{eqb}
 use lib.Ieee.{Float}
 use Rattle.bits.specs.Fields.{digits, bit}

@@ -7,7 +7,6 @@ use Rattle.crate_record.specs.declared.StandardTiming.{StandardTiming}
 use Rattle.crate_record.specs.declared.StandardTimings.{StandardTimings}
 use Rattle.crate_record.specs.declared.WhitePoint.{WhitePoint}
 use Rattle.crate_record.specs.declared.WhitePoints.{WhitePoints}
-use Rattle.crate_record.specs.declared.Held.{Held}
 use Rattle.crate_record.specs.declared.MonitorDescriptor.{MonitorDescriptor}
 use Rattle.crate_record.specs.declared.MonitorDescriptors.{MonitorDescriptors}
 use Rattle.crate_record.specs.declared.DetailedTiming.{DetailedTiming}

@@ -5,7 +5,7 @@ use mathlib.Core.List.{List}
 use native.Mathlib.Omega.{arith}
 use lib.ListN.{set}
 use Rattle.fixed.specs.Fixed.{put, more, put-room, more-room}
-use Rattle.steps.specs.Steps.{Steps, done, _>>=_, Outcome, got}
+use Rattle.steps.specs.Steps.{done, _>>=_, got}
 use Rattle.steps.specs.Laws.{zero-left}
 use Rattle.steps.specs.Laws as Turns
 use Rattle.steps.specs.declared.Cursor.{Cursor}

@@ -7,7 +7,7 @@ use native.Mathlib.Omega.{arith}
 use borrow.Author.Tests.{ltb-true, ltb-false}
 use lib.Dec.{eqb, ltb}
 use lib.ListN.{length}
-use Rattle.steps.specs.Steps.{Steps, done, _>>=_, _>>_, ensure, pick, got, refused, run}
+use Rattle.steps.specs.Steps.{done, _>>=_, _>>_, ensure, pick, got, refused, run}
 use Rattle.steps.specs.Laws.{more, zero-left, run-next, run-end}
 use Rattle.steps.specs.Leaves.{byte}
 use Rattle.crate_text.specs.Text.{scan, padding, skip}

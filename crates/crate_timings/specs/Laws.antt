@@ -1,10 +1,9 @@
 -- A turn of the loop over pairs, and a push as the code makes it: for the proofs of the code.
 use Prim.Native.Nat.{ℕ, _+_, _-_, _<_, _≤_}
 use mathlib.Core.Path.{_≡_, ap, _∙_}
-use mathlib.Core.List.{List}
 use lib.ListN.{set}
-use Rattle.fixed.specs.Fixed.{put, more, put-room, more-room, put-full, more-full}
-use Rattle.steps.specs.Steps.{Steps, done, _>>=_}
+use Rattle.fixed.specs.Fixed.{more, put-room, more-room, put-full, more-full}
+use Rattle.steps.specs.Steps.{done, _>>=_}
 use Rattle.steps.specs.Laws.{zero-left}
 use Rattle.steps.specs.Laws as Turns
 use Rattle.crate_record.specs.Lists.{pushStandard}

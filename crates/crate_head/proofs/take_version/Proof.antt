@@ -1,5 +1,5 @@
 -- `crate_head::take_version` meets its contract: a chain of reads, each a `step`. Assumes nothing.
-use mathlib.Core.Path.{_≡_, refl, sym, ap, ap₂, _∙_}
+use mathlib.Core.Path.{sym}
 use borrow.Author.Needs.{needs}
 use denote.Ref.{now}
 use Rattle.steps.specs.Laws.{step-two, SoFar}

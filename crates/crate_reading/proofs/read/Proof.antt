@@ -1,5 +1,5 @@
 -- `crate_reading::read` meets its contract: five parts in a row, each a `step`; a part with arrays lies beside its end, so its `step` goes by `ended`. Assumes nothing.
-use mathlib.Core.Path.{_≡_, refl, sym, ap, ap₂, _∙_}
+use mathlib.Core.Path.{sym, ap, _∙_}
 use borrow.Author.Needs.{needs}
 use denote.Ref.{now}
 use Rattle.steps.specs.Laws.{step, refused-beside, SoFar}

@@ -4,9 +4,8 @@ use mathlib.Core.Path.{_≡_, sym, ap, _∙_}
 use mathlib.Core.Logic.{⊎-elim}
 use Prim.Native.Nat.{ℕ, _-_}
 use native.Mathlib.Omega.{arith}
-use denote.Ref.{now}
 use Rattle.steps.specs.Steps.{run}
-use Rattle.steps.specs.Laws.{step, same-run, SoFar}
+use Rattle.steps.specs.Laws.{step, same-run}
 use Rattle.crate_record.specs.declared.StandardTimings.{StandardTimings}
 use Rattle.crate_record.specs.Lists.{noStandard}
 use Rattle.crate_timings.specs.Pairs.{pair, pairs, listed}

@@ -1,5 +1,5 @@
 -- `steps::Cursor::four` meets its contract: a chain of reads, each a `step`. Assumes nothing.
-use mathlib.Core.Path.{_≡_, refl, sym, ap, ap₂, _∙_}
+use mathlib.Core.Path.{sym, _∙_}
 use borrow.Author.Needs.{needs}
 use denote.Ref.{now}
 use Rattle.steps.specs.Laws.{step-two, SoFar}
