@@ -7,7 +7,7 @@
 #include "edid.h"
 
 typedef uint64_t side(const uint8_t *block, size_t length);
-extern side c_nothing, c_sum, every_field, rust_parse, rust_record;
+extern side c_nothing, c_sum, every_field, every_standard_field, rust_parse, rust_record;
 
 static uint64_t refusal_number(const uint8_t *block, size_t length) { return edid_refusal_number(block, length); }
 static uint64_t bytes_taken(const uint8_t *block, size_t length) { return edid_bytes_taken(block, length); }
@@ -19,6 +19,7 @@ static const struct {
 } sides[] = {
     {"nothing", c_nothing},
     {"every_field", every_field},
+    {"every_standard_field", every_standard_field},
     {"refusal_number", refusal_number},
     {"bytes_taken", bytes_taken},
     {"sum_is_zero", sum_is_zero},
