@@ -1,15 +1,12 @@
--- A later slot, as the source reads it: a detailed timing, or the descriptor that its tag names.
+-- The descriptor of a slot that holds no timing, as the source reads it: what its tag names.
 use Prim.Native.Nat.{ℕ, zero, suc, _*_}
+use mathlib.Core.Bool.{cond}
 use lib.Dec.{eqb, ltb}
-use Rattle.steps.specs.Steps.{Steps, done, _>>=_, _>>_, ensure, pick}
+use Rattle.steps.specs.Steps.{Steps, done, _>>=_, _>>_, ensure}
 use Rattle.steps.specs.Leaves.{byte, word}
 use Rattle.steps.specs.declared.Span.{Span}
 use Rattle.crate_text.specs.Text.{skip, span, text}
-use Rattle.crate_head.specs.Head.{coordinate}
-use Rattle.crate_detailed.specs.Detailed.{detailed}
-use Rattle.crate_detailed.specs.declared.MaybeTiming.{MaybeTiming}
-use Rattle.crate_detailed.specs.declared.MaybeTiming.the-variants as Maybe
-use Rattle.crate_record.specs.Single.{whole, gammaOf, halfOf}
+use Rattle.crate_record.specs.Single.{whole, gammaOf, coordinate, halfOf}
 use Rattle.crate_record.specs.declared.WhitePoint.{WhitePoint}
 use Rattle.crate_record.specs.declared.Limits.{Limits}
 use Rattle.crate_record.specs.declared.SecondaryTiming.{SecondaryTiming}
@@ -19,7 +16,7 @@ use Rattle.crate_record.specs.declared.MonitorDescriptor.the-variants.{SerialNu
 use Rattle.crate_descriptors.specs.declared.Points.{Points}
 use Rattle.crate_descriptors.specs.declared.Points.the-variants.{One, Two}
 use Rattle.crate_descriptors.specs.declared.Slot.{Slot}
-use Rattle.crate_descriptors.specs.declared.Slot.the-variants.{Nothing, Timed, Described, White, Six}
+use Rattle.crate_descriptors.specs.declared.Slot.the-variants.{Nothing, Described, White, Six}
 
 -- ---- how descriptors end
 
@@ -62,12 +59,12 @@ ended ps = do
 unfoldable pub second : WhitePoint → Steps Points
 second p = do
   q ← point
-  pick (eqb (q .index) 0) (ended (Two p q)) (done (Two p q))
+  cond (eqb (q .index) 0) (ended (Two p q)) (done (Two p q))
 
 unfoldable pub points : Steps Points
 points = do
   p ← point
-  pick (eqb (p .index) 0) (ended (One p)) (second p)
+  cond (eqb (p .index) 0) (ended (One p)) (second p)
 
 unfoldable pub white : Steps Slot
 white = do
@@ -102,7 +99,7 @@ other kind = do
   done (Other kind d)
 
 unfoldable pub secondary : ℕ → Steps SecondaryTiming
-secondary kind = pick (eqb kind 0x00) none (pick (eqb kind 0x02) gtf (other kind))
+secondary kind = cond (eqb kind 0x00) none (cond (eqb kind 0x02) gtf (other kind))
 
 unfoldable pub limitsOf : ℕ → ℕ → ℕ → ℕ → ℕ → Limits
 limitsOf vmin vmax hmin hmax clock =
@@ -122,7 +119,7 @@ range = do
 -- ---- fc, fe, ff: texts; raw runs
 
 unfoldable pub stringOf : ℕ → Span → MonitorDescriptor
-stringOf tag t = pick (eqb tag 0xfc) (MonitorName t) (pick (eqb tag 0xfe) (OtherString t) (SerialNumber t))
+stringOf tag t = cond (eqb tag 0xfc) (MonitorName t) (cond (eqb tag 0xfe) (OtherString t) (SerialNumber t))
 
 unfoldable pub string : ℕ → Steps Slot
 string tag = do
@@ -130,36 +127,27 @@ string tag = do
   done (Described (stringOf tag t))
 
 unfoldable pub rawOf : ℕ → Span → MonitorDescriptor
-rawOf tag d = pick (ltb tag 0x10) (ManufacturerDefined tag d) (Undefined tag d)
+rawOf tag d = cond (ltb tag 0x10) (ManufacturerDefined tag d) (Undefined tag d)
 
 unfoldable pub raw : ℕ → Steps Slot
 raw tag = do
   d ← span 13
   done (Described (rawOf tag d))
 
--- ---- the slot
+-- ---- the descriptor
 
 unfoldable pub tagged : ℕ → Steps Slot
 tagged tag =
-    pick (eqb tag 0x10) (done Nothing)
-    (pick (eqb tag 0xfa) (done Six)
-    (pick (eqb tag 0xfb) white
-    (pick (eqb tag 0xfc) (string tag)
-    (pick (eqb tag 0xfd) range
-    (pick (eqb tag 0xfe) (string tag)
-    (pick (eqb tag 0xff) (string tag) (raw tag)))))))
+    cond (eqb tag 0x10) (done Nothing)
+    (cond (eqb tag 0xfa) (done Six)
+    (cond (eqb tag 0xfb) white
+    (cond (eqb tag 0xfc) (string tag)
+    (cond (eqb tag 0xfd) range
+    (cond (eqb tag 0xfe) (string tag)
+    (cond (eqb tag 0xff) (string tag) (raw tag)))))))
 
 unfoldable pub descriptor : Steps Slot
 descriptor = do
   tag ← byte
   byte
   tagged tag
-
-abbrev pub later : MaybeTiming → Steps Slot
-later Maybe.None = descriptor
-later (Maybe.Some t) = done (Timed t)
-
-unfoldable pub slot : Steps Slot
-slot = do
-  t ← detailed
-  later t

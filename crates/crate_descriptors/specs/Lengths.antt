@@ -1,22 +1,18 @@
--- A later slot takes 5 to 23 bytes where it is accepted, the six pairs of an fa slot included.
+-- A descriptor takes 2 to 20 bytes where it is accepted, the six pairs of an fa slot included.
 use Prim.Native.Nat.{ℕ, zero, suc, _+_, _*_, _≤_}
 use mathlib.Core.Path.{_≡_}
 use native.Mathlib.Omega.{arith}
 use lib.Dec.{eqb}
 use Rattle.steps.specs.Steps.{Steps, done, _>>=_}
 use Rattle.steps.specs.Leaves.{byte, word}
-use Rattle.steps.specs.Answers.{Ends, ends-map, ends-then, ends-pick, Takes, no-byte, takes-then, takes-ensured, takes-looser, takes-byte, takes-word}
+use Rattle.steps.specs.Answers.{Ends, ends-map, ends-then, ends-cond, Takes, no-byte, takes-then, takes-ensured, takes-looser, takes-byte, takes-word}
 use Rattle.crate_record.specs.declared.WhitePoint.{WhitePoint}
 use Rattle.crate_text.specs.Text.{skip, span, text}
 use Rattle.crate_text.specs.Lengths.{takes-skip, takes-span, takes-text}
-use Rattle.crate_detailed.specs.Detailed.{detailed}
-use Rattle.crate_detailed.specs.Lengths.{slotBytes, ends-detailed}
-use Rattle.crate_detailed.specs.declared.MaybeTiming.{MaybeTiming}
-use Rattle.crate_detailed.specs.declared.MaybeTiming.the-variants as Maybe
 use Rattle.crate_descriptors.specs.declared.Points.{Points}
 use Rattle.crate_descriptors.specs.declared.Slot.{Slot}
-use Rattle.crate_descriptors.specs.declared.Slot.the-variants.{Nothing, Timed, Described, White, Six}
-use Rattle.crate_descriptors.specs.Descriptors.{spaces, closing, point, ended, second, points, white, gtf, none, other, secondary, range, string, raw, tagged, descriptor, later, slot}
+use Rattle.crate_descriptors.specs.declared.Slot.the-variants.{Nothing, Described, White, Six}
+use Rattle.crate_descriptors.specs.Descriptors.{spaces, closing, point, ended, second, points, white, gtf, none, other, secondary, range, string, raw, tagged, descriptor}
 
 -- ---- the parts
 
@@ -44,14 +40,14 @@ takes-second : (p : WhitePoint) → Takes 5 10 (second p)
 unfolding second
 takes-second p =
     takes-then point _ 5 5 0 5 takes-point
-    (λ q. ends-pick (eqb (q .index) 0) _ _ _
+    (λ q. ends-cond (eqb (q .index) 0) _ _ _
     (takes-looser (ended _) 5 5 0 5 (omega arith) (omega arith) (takes-ended _)) (omega arith, omega arith))
 
 takes-points : Takes 10 15 points
 unfolding points
 takes-points =
     takes-then point _ 5 5 5 10 takes-point
-    (λ p. ends-pick (eqb (p .index) 0) _ _ _
+    (λ p. ends-cond (eqb (p .index) 0) _ _ _
     (takes-looser (ended _) 5 5 5 10 (omega arith) (omega arith) (takes-ended _)) (takes-second p))
 
 takes-gtf : Takes 7 7 gtf
@@ -75,14 +71,13 @@ takes-other kind = takes-then (span 7) _ 7 7 0 0 (takes-span 7) (λ d. no-byte)
 takes-secondary : (kind : ℕ) → Takes 7 7 (secondary kind)
 unfolding secondary
 takes-secondary kind =
-    ends-pick (eqb kind 0x00) _ _ _ takes-none (ends-pick (eqb kind 0x02) _ _ _ takes-gtf (takes-other kind))
+    ends-cond (eqb kind 0x00) _ _ _ takes-none (ends-cond (eqb kind 0x02) _ _ _ takes-gtf (takes-other kind))
 
--- ---- the slot
+-- ---- the descriptor
 
--- the bytes of a slot that are left to be taken
+-- the bytes that are left to be taken
 abbrev pub left : Slot → ℕ
 left Nothing = 0
-left (Timed t) = 0
 left (Described d) = 0
 left (White ps) = 0
 left Six = 13
@@ -125,26 +120,14 @@ whole-tagged : (tag : ℕ) → Whole 0 18 (tagged tag)
 unfolding tagged
 whole-tagged tag =
     let thirteen : (p : Steps Slot) → Whole 13 13 p → Whole 0 18 p = λ p. whole-looser p 13 13 0 18 (omega arith) (omega arith) in
-    ends-pick (eqb tag 0x10) (done Nothing) _ _ (omega arith, omega arith)
-    (ends-pick (eqb tag 0xfa) (done Six) _ _ (omega arith, omega arith)
-    (ends-pick (eqb tag 0xfb) white _ _ (whole-looser white 13 18 0 18 (omega arith) (omega arith) whole-white)
-    (ends-pick (eqb tag 0xfc) (string tag) _ _ (thirteen (string tag) (whole-string tag))
-    (ends-pick (eqb tag 0xfd) range _ _ (thirteen range whole-range)
-    (ends-pick (eqb tag 0xfe) (string tag) _ _ (thirteen (string tag) (whole-string tag))
-    (ends-pick (eqb tag 0xff) (string tag) (raw tag) _ (thirteen (string tag) (whole-string tag)) (thirteen (raw tag) (whole-raw tag))))))))
+    ends-cond (eqb tag 0x10) (done Nothing) _ _ (omega arith, omega arith)
+    (ends-cond (eqb tag 0xfa) (done Six) _ _ (omega arith, omega arith)
+    (ends-cond (eqb tag 0xfb) white _ _ (whole-looser white 13 18 0 18 (omega arith) (omega arith) whole-white)
+    (ends-cond (eqb tag 0xfc) (string tag) _ _ (thirteen (string tag) (whole-string tag))
+    (ends-cond (eqb tag 0xfd) range _ _ (thirteen range whole-range)
+    (ends-cond (eqb tag 0xfe) (string tag) _ _ (thirteen (string tag) (whole-string tag))
+    (ends-cond (eqb tag 0xff) (string tag) (raw tag) _ (thirteen (string tag) (whole-string tag)) (thirteen (raw tag) (whole-raw tag))))))))
 
-whole-descriptor : Whole 2 20 descriptor
+pub whole-descriptor : Whole 2 20 descriptor
 unfolding descriptor
 whole-descriptor = whole-then byte _ 1 1 1 19 takes-byte (λ tag. whole-then byte _ 1 1 0 18 takes-byte (λ _. whole-tagged tag))
-
-whole-later : (t : MaybeTiming) → Ends (λ x k. (5 ≤ slotBytes t + k) × (slotBytes t + k + left x ≤ 23)) (later t)
-whole-later Maybe.None =
-    ends-map descriptor (λ x k. (2 ≤ k) × (k + left x ≤ 20)) (λ x k. (5 ≤ 3 + k) × (3 + k + left x ≤ 23)) (λ x k q. (omega arith, omega arith)) whole-descriptor
-whole-later (Maybe.Some t) = (omega arith, omega arith)
-
-pub whole-slot : Whole 5 23 slot
-unfolding slot
-whole-slot =
-    ends-then detailed later (λ t m. m ≡ slotBytes t) (λ x m. (5 ≤ m) × (m + left x ≤ 23)) ends-detailed
-    (λ t m e. ends-map (later t) (λ x k. (5 ≤ slotBytes t + k) × (slotBytes t + k + left x ≤ 23)) (λ x k. (5 ≤ m + k) × (m + k + left x ≤ 23))
-    (λ x k q. (omega arith, omega arith)) (whole-later t))

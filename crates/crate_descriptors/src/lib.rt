@@ -1,7 +1,4 @@
-// One later slot: a detailed timing, or the descriptor that its tag names.
-use crate_detailed::DetailedRead;
-use crate_detailed::MaybeTiming;
-use crate_record::DetailedTiming;
+// The descriptor of a slot that holds no timing: what its tag names.
 use crate_record::Limits;
 use crate_record::MonitorDescriptor;
 use crate_record::SecondaryTiming;
@@ -18,7 +15,7 @@ use steps::WordRead;
 ghost use mathlib.Core.Path.{_≡_};
 ghost use Rattle.steps.specs.Steps.{run};
 ghost use Rattle.crate_text.specs.Answers.{ofPad};
-ghost use Rattle.crate_descriptors.specs.Descriptors.{spaces, closing, pointOf, point, ended, second, points, white, gtfOf, gtf, none, other, secondary, limitsOf, range, stringOf, string, rawOf, raw, tagged, descriptor, slot};
+ghost use Rattle.crate_descriptors.specs.Descriptors.{spaces, closing, pointOf, point, ended, second, points, white, gtfOf, gtf, none, other, secondary, limitsOf, range, stringOf, string, rawOf, raw, tagged, descriptor};
 ghost use Rattle.crate_descriptors.specs.Answers.{ofPoint, ofPoints, ofSecondary, ofSlot};
 
 // The white points of an fb slot.
@@ -27,10 +24,9 @@ pub enum Points {
     Two(WhitePoint, WhitePoint),
 }
 
-// What a slot says. Of an fa slot the six pairs are left to be taken.
+// What a descriptor says. Of an fa slot the six pairs are left to be taken.
 pub enum Slot {
     Nothing,
-    Timed(DetailedTiming),
     Described(MonitorDescriptor),
     White(Points),
     Six,
@@ -57,7 +53,7 @@ pub enum SlotRead {
 }
 
 // n words of 0x2020.
-pub fn take_spaces(c: Cursor, s: &[u8], n: usize) -> PadRead
+fn take_spaces(c: Cursor, s: &[u8], n: usize) -> PadRead
     ensures { λ r. ⌜ ofPad r ≡ run (spaces n) (now (s .entry)) (c .at) ⌝ }
 {
     let mut c = c;
@@ -107,13 +103,13 @@ fn point_of(index: u8, low: u8, x: u8, y: u8, gamma: u8) -> WhitePoint
 {
     WhitePoint {
         index,
-        x: crate_head::coordinate_of(x, low, 2),
-        y: crate_head::coordinate_of(y, low, 0),
+        x: crate_record::coordinate_of(x, low, 2),
+        y: crate_record::coordinate_of(y, low, 0),
         gamma: crate_record::gamma_of(gamma),
     }
 }
 
-pub fn take_point(c: Cursor, s: &[u8]) -> PointRead
+fn take_point(c: Cursor, s: &[u8]) -> PointRead
     ensures { λ r. ⌜ ofPoint r ≡ run point (now (s .entry)) (c .at) ⌝ }
 {
     match c.four(s) {
@@ -126,7 +122,7 @@ pub fn take_point(c: Cursor, s: &[u8]) -> PointRead
 }
 
 // Five bytes are skipped, and the points are all there are.
-pub fn take_ended(c: Cursor, s: &[u8], ps: Points) -> PointsRead
+fn take_ended(c: Cursor, s: &[u8], ps: Points) -> PointsRead
     ensures { λ r. ⌜ ofPoints r ≡ run (ended ps) (now (s .entry)) (c .at) ⌝ }
 {
     match crate_text::take_skip(c, s, 5) {
@@ -136,7 +132,7 @@ pub fn take_ended(c: Cursor, s: &[u8], ps: Points) -> PointsRead
 }
 
 // The second point, after p.
-pub fn take_second(c: Cursor, s: &[u8], p: WhitePoint) -> PointsRead
+fn take_second(c: Cursor, s: &[u8], p: WhitePoint) -> PointsRead
     ensures { λ r. ⌜ ofPoints r ≡ run (second p) (now (s .entry)) (c .at) ⌝ }
 {
     let mut c = c;
@@ -155,7 +151,7 @@ pub fn take_second(c: Cursor, s: &[u8], p: WhitePoint) -> PointsRead
     }
 }
 
-pub fn take_points(c: Cursor, s: &[u8]) -> PointsRead
+fn take_points(c: Cursor, s: &[u8]) -> PointsRead
     ensures { λ r. ⌜ ofPoints r ≡ run points (now (s .entry)) (c .at) ⌝ }
 {
     let mut c = c;
@@ -174,7 +170,7 @@ pub fn take_points(c: Cursor, s: &[u8]) -> PointsRead
     }
 }
 
-pub fn take_white(c: Cursor, s: &[u8]) -> SlotRead
+fn take_white(c: Cursor, s: &[u8]) -> SlotRead
     ensures { λ r. ⌜ ofSlot r ≡ run white (now (s .entry)) (c .at) ⌝ }
 {
     let mut c = c;
@@ -203,7 +199,7 @@ fn gtf_of(start: u8, c: u8, m: u16, k: u8, j: u8) -> SecondaryTiming
     }
 }
 
-pub fn take_gtf(c: Cursor, s: &[u8]) -> SecondaryRead
+fn take_gtf(c: Cursor, s: &[u8]) -> SecondaryRead
     ensures { λ r. ⌜ ofSecondary r ≡ run gtf (now (s .entry)) (c .at) ⌝ }
 {
     let mut c = c;
@@ -232,7 +228,7 @@ pub fn take_gtf(c: Cursor, s: &[u8]) -> SecondaryRead
     }
 }
 
-pub fn take_none(c: Cursor, s: &[u8]) -> SecondaryRead
+fn take_none(c: Cursor, s: &[u8]) -> SecondaryRead
     ensures { λ r. ⌜ ofSecondary r ≡ run none (now (s .entry)) (c .at) ⌝ }
 {
     match take_closing(c, s, 3) {
@@ -241,7 +237,7 @@ pub fn take_none(c: Cursor, s: &[u8]) -> SecondaryRead
     }
 }
 
-pub fn take_other(c: Cursor, s: &[u8], kind: u8) -> SecondaryRead
+fn take_other(c: Cursor, s: &[u8], kind: u8) -> SecondaryRead
     ensures { λ r. ⌜ ofSecondary r ≡ run (other kind) (now (s .entry)) (c .at) ⌝ }
 {
     match crate_text::take_span(c, s, 7) {
@@ -253,7 +249,7 @@ pub fn take_other(c: Cursor, s: &[u8], kind: u8) -> SecondaryRead
     }
 }
 
-pub fn take_secondary(c: Cursor, s: &[u8], kind: u8) -> SecondaryRead
+fn take_secondary(c: Cursor, s: &[u8], kind: u8) -> SecondaryRead
     ensures { λ r. ⌜ ofSecondary r ≡ run (secondary kind) (now (s .entry)) (c .at) ⌝ }
 {
     match kind {
@@ -275,7 +271,7 @@ fn limits_of(vmin: u8, vmax: u8, hmin: u8, hmax: u8, clock: u8) -> Limits
     }
 }
 
-pub fn take_range(c: Cursor, s: &[u8]) -> SlotRead
+fn take_range(c: Cursor, s: &[u8]) -> SlotRead
     ensures { λ r. ⌜ ofSlot r ≡ run range (now (s .entry)) (c .at) ⌝ }
 {
     match c.four(s) {
@@ -308,7 +304,7 @@ fn string_of(tag: u8, t: Span) -> MonitorDescriptor
     MonitorDescriptor::SerialNumber(t)
 }
 
-pub fn take_string(c: Cursor, s: &[u8], tag: u8) -> SlotRead
+fn take_string(c: Cursor, s: &[u8], tag: u8) -> SlotRead
     ensures { λ r. ⌜ ofSlot r ≡ run (string tag) (now (s .entry)) (c .at) ⌝ }
 {
     match crate_text::take_text(c, s) {
@@ -327,7 +323,7 @@ fn raw_of(tag: u8, run: Span) -> MonitorDescriptor
     }
 }
 
-pub fn take_raw(c: Cursor, s: &[u8], tag: u8) -> SlotRead
+fn take_raw(c: Cursor, s: &[u8], tag: u8) -> SlotRead
     ensures { λ r. ⌜ ofSlot r ≡ run (raw tag) (now (s .entry)) (c .at) ⌝ }
 {
     match crate_text::take_span(c, s, 13) {
@@ -336,7 +332,7 @@ pub fn take_raw(c: Cursor, s: &[u8], tag: u8) -> SlotRead
     }
 }
 
-pub fn take_tagged(c: Cursor, s: &[u8], tag: u8) -> SlotRead
+fn take_tagged(c: Cursor, s: &[u8], tag: u8) -> SlotRead
     ensures { λ r. ⌜ ofSlot r ≡ run (tagged tag) (now (s .entry)) (c .at) ⌝ }
 {
     match tag {
@@ -357,17 +353,5 @@ pub fn take_descriptor(c: Cursor, s: &[u8]) -> SlotRead
     match c.two(s) {
         TwoRead::Refused(f) => SlotRead::Refused(f),
         TwoRead::Got(tag, _, next) => take_tagged(next, s, tag),
-    }
-}
-
-pub fn take_slot(c: Cursor, s: &[u8]) -> SlotRead
-    ensures { λ r. ⌜ ofSlot r ≡ run slot (now (s .entry)) (c .at) ⌝ }
-{
-    match crate_detailed::take_detailed(c, s) {
-        DetailedRead::Refused(f) => SlotRead::Refused(f),
-        DetailedRead::Got(t, next) => match t {
-            MaybeTiming::None => take_descriptor(next, s),
-            MaybeTiming::Some(t) => SlotRead::Got(Slot::Timed(t), next),
-        },
     }
 }

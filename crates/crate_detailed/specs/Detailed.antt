@@ -1,9 +1,9 @@
 -- A detailed timing, as the source reads it. Bytes have the source's names, cut short: hb is hb_low, hh is h_high, ho is hso_low.
 use Prim.Native.Nat.{ℕ}
-use mathlib.Core.Bool.{Bool, true, false, _||_}
+use mathlib.Core.Bool.{Bool, true, false, _||_, cond}
 use lib.Dec.{eqb, ltb}
 use Rattle.bits.specs.Fields.{digits, bit}
-use Rattle.steps.specs.Steps.{Steps, done, refuse, _>>=_, _>>_, pick}
+use Rattle.steps.specs.Steps.{Steps, done, refuse, _>>=_, _>>_}
 use Rattle.steps.specs.Leaves.{byte, word}
 use Rattle.timing.specs.Axis.{acrossOf, downOf}
 use Rattle.timing.specs.Rest.{clockOf, sizeOf, borderOf, polarityOf, stereoOf}
@@ -30,8 +30,8 @@ lineOf false = Green
 -- by the kind, and digits 2 and 1
 abbrev pub syncBy : ℕ → Bool → Bool → SyncType
 syncBy kind two one =
-    pick (ltb kind 2) (Composite two (lineOf one))
-    (pick (eqb kind 2) (Composite two (Digital (polarityOf one)))
+    cond (ltb kind 2) (Composite two (lineOf one))
+    (cond (eqb kind 2) (Composite two (Digital (polarityOf one)))
     (Separate (polarityOf one) (polarityOf two)))
 
 unfoldable pub syncOf : ℕ → SyncType
@@ -88,4 +88,4 @@ unfoldable pub detailed : Steps MaybeTiming
 detailed = do
   clock ← word
   ha ← byte
-  pick (eqb clock 0 || eqb ha 0) (done None) (timed clock ha)
+  cond (eqb clock 0 || eqb ha 0) (done None) (timed clock ha)

@@ -6,7 +6,7 @@ use native.Mathlib.Omega.{arith}
 use lib.Dec.{eqb}
 use Rattle.steps.specs.Steps.{done}
 use Rattle.steps.specs.Leaves.{byte, word}
-use Rattle.steps.specs.Answers.{Ends, ends-then, ends-map, ends-pick, Takes, no-byte, takes-then, takes-byte, takes-word}
+use Rattle.steps.specs.Answers.{Ends, ends-then, ends-map, ends-cond, Takes, no-byte, takes-then, takes-byte, takes-word}
 use Rattle.timing.specs.Axis.{acrossOf, downOf}
 use Rattle.timing.specs.declared.AcrossRead.{AcrossRead}
 use Rattle.timing.specs.declared.AcrossRead.the-variants as Across
@@ -51,5 +51,5 @@ unfolding detailed
 ends-detailed =
     ends-then word _ (λ w m. (2 ≤ m) × (m ≤ 2)) _ takes-word
     (λ clock m q. ends-then byte _ (λ b k. (1 ≤ k) × (k ≤ 1)) _ takes-byte
-    (λ ha k r. ends-pick (eqb clock 0 || eqb ha 0) (done None) (timed clock ha) _ (omega arith)
+    (λ ha k r. ends-cond (eqb clock 0 || eqb ha 0) (done None) (timed clock ha) _ (omega arith)
     (ends-map (timed clock ha) (λ t j. 3 + j ≡ slotBytes t) (λ t j. m + (k + j) ≡ slotBytes t) (λ t j e. omega arith) (ends-timed clock ha))))

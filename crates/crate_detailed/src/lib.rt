@@ -40,7 +40,7 @@ pub enum DetailedRead {
     Refused(Refusal),
 }
 
-pub fn line_of(rgb: bool) -> SyncLine
+fn line_of(rgb: bool) -> SyncLine
     ensures { λ r. ⌜ r ≡ lineOf rgb ⌝ }
 {
     if rgb { SyncLine::RGB } else { SyncLine::Green }
@@ -68,7 +68,7 @@ fn sync_by(kind: u8, two: bool, one: bool) -> SyncType
     }
 }
 
-pub fn sync_of(val: u8) -> SyncType
+fn sync_of(val: u8) -> SyncType
     ensures { λ r. ⌜ r ≡ syncOf val ⌝ }
 {
     sync_by(
@@ -79,7 +79,7 @@ pub fn sync_of(val: u8) -> SyncType
 }
 
 // Centimetres, from whole millimetres.
-pub fn in_tenths(mm: timing::Size) -> ImageSize
+fn in_tenths(mm: timing::Size) -> ImageSize
     ensures { λ r. ⌜ r ≡ inTenths mm ⌝ }
 {
     ImageSize {
@@ -106,7 +106,7 @@ fn axes_by(across: AcrossRead, down: DownRead, c: Cursor) -> AxesRead
 }
 
 // The nine bytes after the active low byte ha.
-pub fn take_axes(c: Cursor, s: &[u8], ha: u8) -> AxesRead
+fn take_axes(c: Cursor, s: &[u8], ha: u8) -> AxesRead
     ensures { λ r. ⌜ ofAxes r ≡ run (axes ha) (now (s .entry)) (c .at) ⌝ }
 {
     match c.four(s) {
@@ -152,7 +152,7 @@ fn timing_of(
     }
 }
 
-pub fn take_timing(c: Cursor, s: &[u8], clock: u16, ha: u8) -> DetailedRead
+fn take_timing(c: Cursor, s: &[u8], clock: u16, ha: u8) -> DetailedRead
     ensures { λ r. ⌜ ofDetailed r ≡ run (timed clock ha) (now (s .entry)) (c .at) ⌝ }
 {
     match take_axes(c, s, ha) {

@@ -1,12 +1,11 @@
 -- The block's first 35 bytes, as the source reads them.
-use Prim.Native.Nat.{ℕ, _+_, _*_}
-use mathlib.Core.Bool.{_||_}
+use Prim.Native.Nat.{ℕ, _+_}
+use mathlib.Core.Bool.{_||_, cond}
 use lib.Dec.{eqb}
-use lib.Ieee.{Float}
-use Rattle.bits.specs.Fields.{digits, bit}
-use Rattle.steps.specs.Steps.{Steps, done, _>>=_, _>>_, ensure, pick}
+use Rattle.bits.specs.Fields.{digits, bit, byCode}
+use Rattle.steps.specs.Steps.{Steps, done, _>>=_, _>>_, ensure}
 use Rattle.steps.specs.Leaves.{byte, word, long}
-use Rattle.crate_record.specs.Single.{whole, gammaOf, chromaOf, levelOf, byCode}
+use Rattle.crate_record.specs.Single.{whole, gammaOf, coordinate, levelOf}
 use Rattle.crate_record.specs.declared.ManufacturerID.{ManufacturerID}
 use Rattle.crate_record.specs.declared.ManufactureDate.{ManufactureDate}
 use Rattle.crate_record.specs.declared.ProductInformation.{ProductInformation}
@@ -66,7 +65,7 @@ version = do
 
 unfoldable pub inputOf : ℕ → VideoInput
 inputOf val =
-    pick (bit val 7)
+    cond (bit val 7)
     (Digital (bit val 0))
     (Analog (levelOf (digits val 5 2)) (bit val 4)
     (record { serrated = bit val 3; green = bit val 2; composite = bit val 1; separate = bit val 0 }))
@@ -77,10 +76,10 @@ input = do
   done (inputOf val)
 
 unfoldable pub sizeOf : ℕ → ℕ → MaxSize
-sizeOf w h = pick (eqb w 0 || eqb h 0) Size.None (Size.Some (record { width = whole w; height = whole h }))
+sizeOf w h = cond (eqb w 0 || eqb h 0) Size.None (Size.Some (record { width = whole w; height = whole h }))
 
 unfoldable pub gammaFrom : ℕ → Gamma
-gammaFrom val = pick (eqb val 0xff) G.None (G.Some (gammaOf val))
+gammaFrom val = cond (eqb val 0xff) G.None (G.Some (gammaOf val))
 
 abbrev pub kindOf : ℕ → DisplayType
 kindOf code = byCode code Monochrome RGBColor OtherColor Undefined
@@ -112,10 +111,6 @@ display = do
   done (record { input = i; size = sizeOf w h; gamma = gammaFrom g; dpms = d })
 
 -- ---- color
-
--- a high byte above two low digits, in 1/1024ths
-abbrev pub coordinate : ℕ → ℕ → ℕ → Float
-coordinate high low k = chromaOf (digits low k 2 + 4 * high)
 
 unfoldable pub color : Steps Chromaticities
 color = do

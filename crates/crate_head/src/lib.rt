@@ -23,7 +23,7 @@ use steps::WordRead;
 ghost use mathlib.Core.Path.{_≡_};
 ghost use Prim.Native.Nat.{_%_};
 ghost use Rattle.steps.specs.Steps.{run};
-ghost use Rattle.crate_head.specs.Head.{header, makerOf, maker, date, product, version, inputOf, input, sizeOf, gammaFrom, kindOf, dpmsOf, dpms, display, coordinate, color, front};
+ghost use Rattle.crate_head.specs.Head.{header, makerOf, maker, date, product, version, inputOf, input, sizeOf, gammaFrom, kindOf, dpmsOf, dpms, display, color, front};
 ghost use Rattle.crate_head.specs.Answers.{ofHeader, ofMaker, ofDate, ofProduct, ofVersion, ofInput, ofDpms, ofDisplay, ofColor, ofFront};
 
 // All of it.
@@ -85,7 +85,7 @@ pub enum FrontRead {
 }
 
 // Two fields of four bytes; each is judged once it is taken.
-pub fn take_header(c: Cursor, s: &[u8]) -> HeaderRead
+fn take_header(c: Cursor, s: &[u8]) -> HeaderRead
     ensures { λ r. ⌜ ofHeader r ≡ run header (now (s .entry)) (c .at) ⌝ }
 {
     let mut c = c;
@@ -127,7 +127,7 @@ fn maker_of(k: u16) -> ManufacturerID
     ManufacturerID(c1, c2, c3)
 }
 
-pub fn take_maker(c: Cursor, s: &[u8]) -> MakerRead
+fn take_maker(c: Cursor, s: &[u8]) -> MakerRead
     ensures { λ r. ⌜ ofMaker r ≡ run maker (now (s .entry)) (c .at) ⌝ }
 {
     match c.word(s) {
@@ -136,7 +136,7 @@ pub fn take_maker(c: Cursor, s: &[u8]) -> MakerRead
     }
 }
 
-pub fn take_date(c: Cursor, s: &[u8]) -> DateRead
+fn take_date(c: Cursor, s: &[u8]) -> DateRead
     ensures { λ r. ⌜ ofDate r ≡ run date (now (s .entry)) (c .at) ⌝ }
 {
     match c.two(s) {
@@ -151,7 +151,7 @@ pub fn take_date(c: Cursor, s: &[u8]) -> DateRead
     }
 }
 
-pub fn take_product(c: Cursor, s: &[u8]) -> ProductRead
+fn take_product(c: Cursor, s: &[u8]) -> ProductRead
     ensures { λ r. ⌜ ofProduct r ≡ run product (now (s .entry)) (c .at) ⌝ }
 {
     let mut c = c;
@@ -190,7 +190,7 @@ pub fn take_product(c: Cursor, s: &[u8]) -> ProductRead
     }
 }
 
-pub fn take_version(c: Cursor, s: &[u8]) -> VersionRead
+fn take_version(c: Cursor, s: &[u8]) -> VersionRead
     ensures { λ r. ⌜ ofVersion r ≡ run version (now (s .entry)) (c .at) ⌝ }
 {
     match c.two(s) {
@@ -202,7 +202,7 @@ pub fn take_version(c: Cursor, s: &[u8]) -> VersionRead
     }
 }
 
-pub fn input_of(val: u8) -> VideoInput
+fn input_of(val: u8) -> VideoInput
     ensures { λ r. ⌜ r ≡ inputOf val ⌝ }
 {
     if bits::is_set(val, 7) {
@@ -222,7 +222,7 @@ pub fn input_of(val: u8) -> VideoInput
     }
 }
 
-pub fn take_input(c: Cursor, s: &[u8]) -> InputRead
+fn take_input(c: Cursor, s: &[u8]) -> InputRead
     ensures { λ r. ⌜ ofInput r ≡ run input (now (s .entry)) (c .at) ⌝ }
 {
     match c.byte(s) {
@@ -231,7 +231,7 @@ pub fn take_input(c: Cursor, s: &[u8]) -> InputRead
     }
 }
 
-pub fn size_of(width: u8, height: u8) -> MaxSize
+fn size_of(width: u8, height: u8) -> MaxSize
     ensures { λ r. ⌜ r ≡ sizeOf width height ⌝ }
 {
     if width == 0 {
@@ -246,7 +246,7 @@ pub fn size_of(width: u8, height: u8) -> MaxSize
     })
 }
 
-pub fn gamma_from(val: u8) -> Gamma
+fn gamma_from(val: u8) -> Gamma
     ensures { λ r. ⌜ r ≡ gammaFrom val ⌝ }
 {
     if val == 0xff {
@@ -256,7 +256,7 @@ pub fn gamma_from(val: u8) -> Gamma
     }
 }
 
-pub fn kind_of(code: u8) -> DisplayType
+fn kind_of(code: u8) -> DisplayType
     ensures { λ r. ⌜ r ≡ kindOf code ⌝ }
 {
     match code {
@@ -267,7 +267,7 @@ pub fn kind_of(code: u8) -> DisplayType
     }
 }
 
-pub fn dpms_of(val: u8) -> DPMSFeatures
+fn dpms_of(val: u8) -> DPMSFeatures
     ensures { λ r. ⌜ r ≡ dpmsOf val ⌝ }
 {
     DPMSFeatures {
@@ -281,7 +281,7 @@ pub fn dpms_of(val: u8) -> DPMSFeatures
     }
 }
 
-pub fn take_dpms(c: Cursor, s: &[u8]) -> DpmsRead
+fn take_dpms(c: Cursor, s: &[u8]) -> DpmsRead
     ensures { λ r. ⌜ ofDpms r ≡ run dpms (now (s .entry)) (c .at) ⌝ }
 {
     match c.byte(s) {
@@ -290,7 +290,7 @@ pub fn take_dpms(c: Cursor, s: &[u8]) -> DpmsRead
     }
 }
 
-pub fn take_display(c: Cursor, s: &[u8]) -> DisplayRead
+fn take_display(c: Cursor, s: &[u8]) -> DisplayRead
     ensures { λ r. ⌜ ofDisplay r ≡ run display (now (s .entry)) (c .at) ⌝ }
 {
     let mut c = c;
@@ -329,14 +329,7 @@ pub fn take_display(c: Cursor, s: &[u8]) -> DisplayRead
     }
 }
 
-// Ten bits in 1/1024ths: a high byte above the two digits of `low` from digit `shift` up.
-pub fn coordinate_of(high: u8, low: u8, shift: u8) -> f32
-    ensures { λ r. ⌜ r ≡ coordinate high low (shift % 8) ⌝ }
-{
-    crate_record::chroma_of(bits::stack(high, bits::digits(low, shift, 2), 2))
-}
-
-pub fn take_color(c: Cursor, s: &[u8]) -> ColorRead
+fn take_color(c: Cursor, s: &[u8]) -> ColorRead
     ensures { λ r. ⌜ ofColor r ≡ run color (now (s .entry)) (c .at) ⌝ }
 {
     match c.two(s) {
@@ -348,20 +341,20 @@ pub fn take_color(c: Cursor, s: &[u8]) -> ColorRead
                 FourRead::Got(bx, by, wx, wy, c) => ColorRead::Got(
                     Chromaticities {
                         red: Chromaticity {
-                            x: coordinate_of(rx, rg, 6),
-                            y: coordinate_of(ry, rg, 4),
+                            x: crate_record::coordinate_of(rx, rg, 6),
+                            y: crate_record::coordinate_of(ry, rg, 4),
                         },
                         green: Chromaticity {
-                            x: coordinate_of(gx, rg, 2),
-                            y: coordinate_of(gy, rg, 0),
+                            x: crate_record::coordinate_of(gx, rg, 2),
+                            y: crate_record::coordinate_of(gy, rg, 0),
                         },
                         blue: Chromaticity {
-                            x: coordinate_of(bx, bw, 6),
-                            y: coordinate_of(by, bw, 4),
+                            x: crate_record::coordinate_of(bx, bw, 6),
+                            y: crate_record::coordinate_of(by, bw, 4),
                         },
                         white: Chromaticity {
-                            x: coordinate_of(wx, bw, 2),
-                            y: coordinate_of(wy, bw, 0),
+                            x: crate_record::coordinate_of(wx, bw, 2),
+                            y: crate_record::coordinate_of(wy, bw, 0),
                         },
                     },
                     c,

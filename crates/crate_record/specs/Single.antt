@@ -1,10 +1,9 @@
 -- The record's f32 numbers, as definitions that compute. The logic sees a float literal of the code as `ofBits binary32` of its bits, so a constant
 -- that is written so here meets the code's with no proof. `Known` proves which number each of them is.
-use Prim.Native.Nat.{ℕ}
-use mathlib.Core.Bool.{cond}
-use lib.Dec.{eqb}
+use Prim.Native.Nat.{ℕ, _+_, _*_}
 use lib.IntN.{pos}
 use lib.Ieee.{Float, binary32, ofBits, ofInt, add, div}
+use Rattle.bits.specs.Fields.{digits, byCode}
 use Rattle.crate_record.specs.declared.SignalLevel.{SignalLevel}
 
 -- ---- constants
@@ -71,6 +70,10 @@ gammaOf v = div binary32 (add binary32 (whole v) f100) f100
 abbrev pub chromaOf : ℕ → Float
 chromaOf n = div binary32 (whole n) f1024
 
+-- a high byte above two low digits, in 1/1024ths
+abbrev pub coordinate : ℕ → ℕ → ℕ → Float
+coordinate high low k = chromaOf (digits low k 2 + 4 * high)
+
 -- n / 10
 abbrev pub tenthsOf : ℕ → Float
 tenthsOf n = div binary32 (whole n) f10
@@ -78,10 +81,6 @@ tenthsOf n = div binary32 (whole n) f10
 -- v / 2
 abbrev pub halfOf : ℕ → Float
 halfOf v = div binary32 (whole v) f2
-
--- the first, second or third of four at 0, 1 and 2, else the fourth
-abbrev pub byCode {ℓ} : {A : Type ℓ} → ℕ → A → A → A → A → A
-byCode n a b c d = cond (eqb n 0) a (cond (eqb n 1) b (cond (eqb n 2) c d))
 
 -- the ratio of the two top bits: 16/10, 4/3, 5/4, 16/9
 abbrev pub ratioOf : ℕ → Float

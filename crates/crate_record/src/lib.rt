@@ -10,8 +10,9 @@ use timing::Pixels;
 use timing::StereoType;
 use timing::SyncPolarity;
 ghost use mathlib.Core.Path.{_≡_};
+ghost use Prim.Native.Nat.{_%_};
 ghost use Rattle.crate_record.specs.Filler.{blank};
-ghost use Rattle.crate_record.specs.Single.{whole, gammaOf, chromaOf, tenthsOf, halfOf, ratioOf, levelOf};
+ghost use Rattle.crate_record.specs.Single.{whole, gammaOf, chromaOf, coordinate, tenthsOf, halfOf, ratioOf, levelOf};
 
 // Three 5-bit numbers.
 pub struct ManufacturerID(pub u8, pub u8, pub u8);
@@ -381,10 +382,17 @@ pub fn gamma_of(v: u8) -> f32
     (v as f32 + 100.0) / 100.0
 }
 
-pub fn chroma_of(n: u16) -> f32
+fn chroma_of(n: u16) -> f32
     ensures { λ r. ⌜ r ≡ chromaOf n ⌝ }
 {
     n as f32 / 1024.0
+}
+
+// Ten bits in 1/1024ths: a high byte above the two digits of `low` from digit `shift` up.
+pub fn coordinate_of(high: u8, low: u8, shift: u8) -> f32
+    ensures { λ r. ⌜ r ≡ coordinate high low (shift % 8) ⌝ }
+{
+    chroma_of(bits::stack(high, bits::digits(low, shift, 2), 2))
 }
 
 pub fn tenths_of(n: u16) -> f32

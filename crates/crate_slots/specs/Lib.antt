@@ -1,5 +1,4 @@
 -- What the contracts of `crate_slots` cite.
 pub mod Slots
-pub mod Answers
 pub mod Laws
 pub mod Lengths

@@ -1,10 +1,9 @@
-// The four slots: the first must be a timing, and each of the three later ones starts where the one before stopped.
+// The four slots: the first holds a timing, and each of the three later ones starts where the one before stopped.
 use crate_descriptors::Points;
 use crate_descriptors::Slot;
 use crate_descriptors::SlotRead;
 use crate_detailed::DetailedRead;
 use crate_detailed::MaybeTiming;
-use crate_record::DetailedTiming;
 use crate_record::DetailedTimings;
 use crate_record::Held;
 use crate_record::MonitorDescriptors;
@@ -19,8 +18,7 @@ use steps::Refusal;
 ghost use mathlib.Core.Path.{_≡_};
 ghost use Rattle.steps.specs.Steps.{run};
 ghost use Rattle.steps.specs.Leaves.{Beside};
-ghost use Rattle.crate_slots.specs.Slots.{noLists, only, slots, first, descriptors};
-ghost use Rattle.crate_slots.specs.Answers.{ofFirst};
+ghost use Rattle.crate_slots.specs.Slots.{noLists, descriptors};
 
 // What the slots hold, with the standard timings that came before them.
 pub struct Lists {
@@ -36,12 +34,7 @@ pub struct ListsRead {
     pub end: End,
 }
 
-pub enum FirstRead {
-    Got(DetailedTiming, Cursor),
-    Refused(Refusal),
-}
-
-pub fn no_lists() -> Lists
+fn no_lists() -> Lists
     ensures { λ r. ⌜ r ≡ noLists ⌝ }
 {
     Lists {
@@ -70,86 +63,87 @@ fn refuse(f: Refusal) -> ListsRead
     }
 }
 
-pub fn take_first(c: Cursor, s: &[u8]) -> FirstRead
-    ensures { λ r. ⌜ ofFirst r ≡ run first (now (s .entry)) (c .at) ⌝ }
-{
-    match crate_detailed::take_detailed(c, s) {
-        DetailedRead::Refused(f) => FirstRead::Refused(f),
-        DetailedRead::Got(t, next) => match t {
-            MaybeTiming::None => FirstRead::Refused(Refusal {
-                number: 3,
-                at: next.at,
-            }),
-            MaybeTiming::Some(t) => FirstRead::Got(t, next),
-        },
-    }
-}
-
-// The three later slots. The lists are local arrays that this function alone fills: no call takes or returns one, but for the answer.
-pub fn take_slots(c: Cursor, s: &[u8], a: StandardTimings, t: DetailedTiming) -> ListsRead
-    ensures { λ r. ⌜ Beside noLists (r .lists) (r .end) (run (slots 3 (only a t)) (now (s .entry)) (c .at)) ⌝ }
+// Slot after slot. The lists are local arrays that this function alone fills: no call takes or returns one, but for the answer.
+pub fn take_descriptors(c: Cursor, s: &[u8], a: StandardTimings) -> ListsRead
+    ensures { λ r. ⌜ Beside noLists (r .lists) (r .end) (run (descriptors a) (now (s .entry)) (c .at)) ⌝ }
 {
     let mut standards = a.items;
     let mut listed = a.len;
     let mut timings = [crate_record::BLANK_DETAILED; 4];
-    timings[0] = t;
-    let mut timed = 1;
+    let mut timed = 0;
     let mut points = [crate_record::BLANK_WHITE; 6];
     let mut pointed = 0;
     let mut entries = [crate_record::BLANK_HELD; 3];
     let mut entered = 0;
     let mut c = c;
     let mut i: usize = 0;
-    while i < 3 {
-        let x = match crate_descriptors::take_slot(c, s) {
-            SlotRead::Refused(f) => return refuse(f),
-            SlotRead::Got(x, next) => {
+    while i < 4 {
+        let t = match crate_detailed::take_detailed(c, s) {
+            DetailedRead::Refused(f) => return refuse(f),
+            DetailedRead::Got(t, next) => {
                 c = next;
-                x
+                t
             }
         };
-        match x {
-            Slot::Nothing => {}
-            Slot::Timed(t) => {
+        match t {
+            MaybeTiming::Some(t) => {
                 timings[timed] = t;
                 timed += 1;
             }
-            Slot::Described(d) => {
-                entries[entered] = Held { descriptor: d };
-                entered += 1;
-            }
-            Slot::White(ps) => match ps {
-                Points::One(p) => {
-                    points[pointed] = p;
-                    pointed += 1;
+            MaybeTiming::None => {
+                if i == 0 {
+                    return refuse(Refusal {
+                        number: 3,
+                        at: c.at,
+                    });
                 }
-                Points::Two(p, q) => {
-                    points[pointed] = p;
-                    points[pointed + 1] = q;
-                    pointed += 2;
-                }
-            },
-            Slot::Six => {
-                let mut k: usize = 0;
-                while k < 6 {
-                    let p = match crate_timings::take_pair(c, s) {
-                        PairRead::Refused(f) => return refuse(f),
-                        PairRead::Got(p, next) => {
-                            c = next;
-                            p
+                let x = match crate_descriptors::take_descriptor(c, s) {
+                    SlotRead::Refused(f) => return refuse(f),
+                    SlotRead::Got(x, next) => {
+                        c = next;
+                        x
+                    }
+                };
+                match x {
+                    Slot::Nothing => {}
+                    Slot::Described(d) => {
+                        entries[entered] = Held { descriptor: d };
+                        entered += 1;
+                    }
+                    Slot::White(ps) => match ps {
+                        Points::One(p) => {
+                            points[pointed] = p;
+                            pointed += 1;
                         }
-                    };
-                    if let Pair::Listed(t) = p {
-                        if listed < 26 {
-                            standards[listed] = t;
-                            listed += 1;
+                        Points::Two(p, q) => {
+                            points[pointed] = p;
+                            points[pointed + 1] = q;
+                            pointed += 2;
+                        }
+                    },
+                    Slot::Six => {
+                        let mut k: usize = 0;
+                        while k < 6 {
+                            let p = match crate_timings::take_pair(c, s) {
+                                PairRead::Refused(f) => return refuse(f),
+                                PairRead::Got(p, next) => {
+                                    c = next;
+                                    p
+                                }
+                            };
+                            if let Pair::Listed(t) = p {
+                                if listed < 26 {
+                                    standards[listed] = t;
+                                    listed += 1;
+                                }
+                            }
+                            k += 1;
+                        }
+                        match crate_descriptors::take_closing(c, s, 0) {
+                            PadRead::Refused(f) => return refuse(f),
+                            PadRead::Got(next) => c = next,
                         }
                     }
-                    k += 1;
-                }
-                match crate_descriptors::take_closing(c, s, 0) {
-                    PadRead::Refused(f) => return refuse(f),
-                    PadRead::Got(next) => c = next,
                 }
             }
         }
@@ -175,14 +169,5 @@ pub fn take_slots(c: Cursor, s: &[u8], a: StandardTimings, t: DetailedTiming) ->
             },
         },
         end: End::At(c),
-    }
-}
-
-pub fn take_descriptors(c: Cursor, s: &[u8], a: StandardTimings) -> ListsRead
-    ensures { λ r. ⌜ Beside noLists (r .lists) (r .end) (run (descriptors a) (now (s .entry)) (c .at)) ⌝ }
-{
-    match take_first(c, s) {
-        FirstRead::Refused(f) => refuse(f),
-        FirstRead::Got(t, next) => take_slots(next, s, a, t),
     }
 }

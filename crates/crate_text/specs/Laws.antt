@@ -1,19 +1,19 @@
 -- A turn of each loop, and what a run of skipped bytes comes to: for the proofs of the code.
 use Prim.Native.Nat.{ℕ, zero, suc, _+_, _-_, _<_, _≤_}
 use mathlib.Core.Path.{_≡_, refl, ap, _∙_}
-use mathlib.Core.Bool.{Bool, true, false}
+use mathlib.Core.Bool.{Bool, true, false, cond}
 use mathlib.Core.List.{List}
 use native.Mathlib.Omega.{arith}
 use borrow.Author.Tests.{ltb-true, ltb-false}
 use lib.Dec.{eqb, ltb}
 use lib.ListN.{length}
-use Rattle.steps.specs.Steps.{done, _>>=_, _>>_, ensure, pick, got, refused, run}
+use Rattle.steps.specs.Steps.{done, _>>=_, _>>_, ensure, got, refused, run}
 use Rattle.steps.specs.Laws.{more, zero-left, run-next, run-end}
 use Rattle.steps.specs.Leaves.{byte}
 use Rattle.crate_text.specs.Text.{scan, padding, skip}
 
 pub scan-more : (i : ℕ) → i < 13
-    → scan (13 - i) i ≡ (byte >>= (λ b. pick (eqb b 0x0a) (done i) (scan (13 - (i + 1)) (i + 1))))
+    → scan (13 - i) i ≡ (byte >>= (λ b. cond (eqb b 0x0a) (done i) (scan (13 - (i + 1)) (i + 1))))
 unfolding scan
 scan-more i h = ap (λ (n : ℕ). scan n i) (more 13 i h)
 

@@ -5,7 +5,7 @@ use native.Mathlib.Omega.{arith}
 use lib.Dec.{eqb}
 use Rattle.steps.specs.Steps.{done, _>>_}
 use Rattle.steps.specs.Leaves.{byte}
-use Rattle.steps.specs.Answers.{Ends, ends-then, ends-map, Takes, ends-pick, no-byte, takes-then, takes-ensured, takes-looser, takes-byte}
+use Rattle.steps.specs.Answers.{Ends, ends-then, ends-map, Takes, ends-cond, no-byte, takes-then, takes-ensured, takes-looser, takes-byte}
 use Rattle.crate_text.specs.Text.{scan, padding, skip, span, text}
 
 pub takes-padding : (n : ℕ) → Takes n n (padding n)
@@ -34,7 +34,7 @@ unfolding scan
 ends-scan zero i = omega arith
 ends-scan (suc n) i =
     ends-then byte _ (λ b m. (1 ≤ m) × (m ≤ 1)) _ takes-byte
-    (λ b m e. ends-pick (eqb b 0x0a) (done i) (scan n (i + 1)) (λ a k. m + k + (i + suc n - 1 - a) ≡ suc n) (omega arith)
+    (λ b m e. ends-cond (eqb b 0x0a) (done i) (scan n (i + 1)) (λ a k. m + k + (i + suc n - 1 - a) ≡ suc n) (omega arith)
     (ends-map (scan n (i + 1)) (λ a k. k + (i + 1 + n - 1 - a) ≡ n) (λ a k. m + k + (i + suc n - 1 - a) ≡ suc n) (λ a k q. omega arith)
     (ends-scan n (i + 1))))
 

@@ -1,7 +1,8 @@
 -- A text: up to 13 bytes to the first 0x0a; what follows within the 13 must be 0x20. Raw runs, and bytes skipped.
 use Prim.Native.Nat.{ℕ, zero, suc, _+_, _-_}
+use mathlib.Core.Bool.{cond}
 use lib.Dec.{eqb}
-use Rattle.steps.specs.Steps.{Steps, done, _>>=_, _>>_, ensure, pick}
+use Rattle.steps.specs.Steps.{Steps, done, _>>=_, _>>_, ensure}
 use Rattle.steps.specs.Leaves.{byte, place}
 use Rattle.steps.specs.declared.Span.{Span}
 
@@ -10,7 +11,7 @@ unfoldable pub scan : ℕ → ℕ → Steps ℕ
 scan zero i = done i
 scan (suc n) i = do
   b ← byte
-  pick (eqb b 0x0a) (done i) (scan n (i + 1))
+  cond (eqb b 0x0a) (done i) (scan n (i + 1))
 
 -- n bytes that must be 0x20
 unfoldable pub padding : ℕ → Steps Unit

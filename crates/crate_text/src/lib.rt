@@ -25,7 +25,7 @@ pub enum TextRead {
 }
 
 // The loop yields the place of the first 0x0a, or 13.
-pub fn take_scan(c: Cursor, s: &[u8]) -> ScanRead
+fn take_scan(c: Cursor, s: &[u8]) -> ScanRead
     ensures { λ r. ⌜ ofScan r ≡ run (scan 13 0) (now (s .entry)) (c .at) ⌝ }
 {
     let mut c = c;
@@ -50,7 +50,7 @@ pub fn take_scan(c: Cursor, s: &[u8]) -> ScanRead
 }
 
 // What follows a text of n bytes within the 13.
-pub fn take_padding(c: Cursor, s: &[u8], n: usize) -> PadRead
+fn take_padding(c: Cursor, s: &[u8], n: usize) -> PadRead
     ensures { λ r. ⌜ ofPad r ≡ run (padding (12 - n)) (now (s .entry)) (c .at) ⌝ }
 {
     let mut c = c;

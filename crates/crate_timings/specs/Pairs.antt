@@ -1,9 +1,9 @@
 -- Standard timings: pairs of bytes, listed in a fixed list with a length.
 use Prim.Native.Nat.{ℕ, zero, suc, _+_, _*_}
-use mathlib.Core.Bool.{_&&_}
+use mathlib.Core.Bool.{_&&_, cond}
 use lib.Dec.{eqb}
 use Rattle.bits.specs.Fields.{digits}
-use Rattle.steps.specs.Steps.{Steps, done, _>>=_, _>>_, pick}
+use Rattle.steps.specs.Steps.{Steps, done, _>>=_, _>>_}
 use Rattle.steps.specs.Leaves.{byte}
 use Rattle.crate_record.specs.Single.{ratioOf}
 use Rattle.crate_record.specs.Lists.{pushStandard}
@@ -18,7 +18,7 @@ standardOf low high =
 
 -- 01 01 is skipped
 unfoldable pub pairOf : ℕ → ℕ → Pair
-pairOf low high = pick (eqb low 1 && eqb high 1) Skipped (Listed (standardOf low high))
+pairOf low high = cond (eqb low 1 && eqb high 1) Skipped (Listed (standardOf low high))
 
 unfoldable pub pair : Steps Pair
 pair = do

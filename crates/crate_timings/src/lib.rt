@@ -12,7 +12,7 @@ ghost use mathlib.Core.Path.{_≡_};
 ghost use Rattle.steps.specs.Steps.{run};
 ghost use Rattle.steps.specs.Leaves.{Beside};
 ghost use Rattle.crate_record.specs.Lists.{noFlags, noStandard};
-ghost use Rattle.crate_timings.specs.Established.{flag, establishedOf, established};
+ghost use Rattle.crate_timings.specs.Established.{flagsIn, flag, establishedOf, established};
 ghost use Rattle.crate_timings.specs.Pairs.{standardOf, pairOf, pair, pairs};
 ghost use Rattle.crate_timings.specs.Answers.{ofPair};
 
@@ -47,45 +47,42 @@ fn no_flags() -> EstablishedTimings
     }
 }
 
-// n is listed where its flag is on.
-fn listed(l: EstablishedTimings, on: bool, n: u8) -> EstablishedTimings
-    ensures { λ r. ⌜ r ≡ flag on n l ⌝ }
+// n is listed where its flag is on; how many are listed then.
+fn list_if(items: &mut [u8; 17], len: usize, on: bool, n: u8) -> usize
+    ensures { λ r. ⌜ flagsIn (now (items .exit)) r ≡ flag on n (flagsIn (now (items .entry)) len) ⌝ }
 {
     if on {
-        let len = l.len;
         if len < 17 {
-            let mut items = l.items;
             items[len] = n;
-            return EstablishedTimings {
-                items,
-                len: len + 1,
-            };
+            return len + 1;
         }
     }
-    l
+    len
 }
 
-pub fn established_of(ft: u16, last: u8) -> EstablishedTimings
+fn established_of(ft: u16, last: u8) -> EstablishedTimings
     ensures { λ r. ⌜ r ≡ establishedOf ft last ⌝ }
 {
-    let mut l = no_flags();
-    l = listed(l, bits::is_set16(ft, 0), 0);
-    l = listed(l, bits::is_set16(ft, 1), 1);
-    l = listed(l, bits::is_set16(ft, 2), 2);
-    l = listed(l, bits::is_set16(ft, 3), 3);
-    l = listed(l, bits::is_set16(ft, 4), 4);
-    l = listed(l, bits::is_set16(ft, 5), 5);
-    l = listed(l, bits::is_set16(ft, 6), 6);
-    l = listed(l, bits::is_set16(ft, 7), 7);
-    l = listed(l, bits::is_set16(ft, 8), 8);
-    l = listed(l, bits::is_set16(ft, 9), 9);
-    l = listed(l, bits::is_set16(ft, 10), 10);
-    l = listed(l, bits::is_set16(ft, 11), 11);
-    l = listed(l, bits::is_set16(ft, 12), 12);
-    l = listed(l, bits::is_set16(ft, 13), 13);
-    l = listed(l, bits::is_set16(ft, 14), 14);
-    l = listed(l, bits::is_set16(ft, 15), 15);
-    listed(l, bits::is_set(last, 7), 16)
+    let mut items = [0u8; 17];
+    let mut len = 0;
+    len = list_if(&mut items, len, bits::is_set16(ft, 0), 0);
+    len = list_if(&mut items, len, bits::is_set16(ft, 1), 1);
+    len = list_if(&mut items, len, bits::is_set16(ft, 2), 2);
+    len = list_if(&mut items, len, bits::is_set16(ft, 3), 3);
+    len = list_if(&mut items, len, bits::is_set16(ft, 4), 4);
+    len = list_if(&mut items, len, bits::is_set16(ft, 5), 5);
+    len = list_if(&mut items, len, bits::is_set16(ft, 6), 6);
+    len = list_if(&mut items, len, bits::is_set16(ft, 7), 7);
+    len = list_if(&mut items, len, bits::is_set16(ft, 8), 8);
+    len = list_if(&mut items, len, bits::is_set16(ft, 9), 9);
+    len = list_if(&mut items, len, bits::is_set16(ft, 10), 10);
+    len = list_if(&mut items, len, bits::is_set16(ft, 11), 11);
+    len = list_if(&mut items, len, bits::is_set16(ft, 12), 12);
+    len = list_if(&mut items, len, bits::is_set16(ft, 13), 13);
+    len = list_if(&mut items, len, bits::is_set16(ft, 14), 14);
+    len = list_if(&mut items, len, bits::is_set16(ft, 15), 15);
+    len = list_if(&mut items, len, bits::is_set(last, 7), 16);
+    EstablishedTimings { items, len }
 }
 
 pub fn take_established(c: Cursor, s: &[u8]) -> EstablishedRead
@@ -109,7 +106,7 @@ pub fn take_established(c: Cursor, s: &[u8]) -> EstablishedRead
     }
 }
 
-pub fn standard_of(low: u8, high: u8) -> StandardTiming
+fn standard_of(low: u8, high: u8) -> StandardTiming
     ensures { λ r. ⌜ r ≡ standardOf low high ⌝ }
 {
     StandardTiming {
@@ -119,7 +116,7 @@ pub fn standard_of(low: u8, high: u8) -> StandardTiming
     }
 }
 
-pub fn pair_of(low: u8, high: u8) -> Pair
+fn pair_of(low: u8, high: u8) -> Pair
     ensures { λ r. ⌜ r ≡ pairOf low high ⌝ }
 {
     if low == 1 && high == 1 {

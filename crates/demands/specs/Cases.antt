@@ -17,8 +17,8 @@ use Rattle.crate_timings.specs.Established.{flag, establishedOf, established}
 use Rattle.crate_timings.specs.Pairs.{standardOf, pairOf, pair, pairs}
 use Rattle.crate_text.specs.Text.{scan, padding, skip, span, text}
 use Rattle.crate_detailed.specs.Detailed.{syncOf, fitted, axes, timingOf, timed, detailed}
-use Rattle.crate_descriptors.specs.Descriptors.{spaces, closing, pointOf, point, ended, second, points, white, stringOf, string, rawOf, raw, tagged, descriptor, slot}
-use Rattle.crate_slots.specs.Slots.{only, slots, first, descriptors}
+use Rattle.crate_descriptors.specs.Descriptors.{spaces, closing, pointOf, point, ended, second, points, white, stringOf, string, rawOf, raw, tagged, descriptor}
+use Rattle.crate_slots.specs.Slots.{begun, slots, descriptors}
 use Rattle.crate_reading.specs.Reading.{edidOf, reading, answer}
 use Rattle.standard_record.specs.Filler.{blank, blankDetailed}
 use Rattle.standard_record.specs.declared.Maker.{Maker}
@@ -109,5 +109,5 @@ cases =
     standard-reads (set (set specimen 56 0) 127 0xe3) (letters 768) ∷ []
 
 pub cases-hold : Hold cases
-unfolding cases shortest longest six specimen lobby holding named byte word long header maker date product version inputOf input sizeOf gammaFrom dpmsOf dpms display color front flag establishedOf established standardOf pairOf pair pairs scan padding skip span text syncOf fitted axes timingOf timed detailed spaces closing pointOf point ended second points white stringOf string rawOf raw tagged descriptor slot only slots first descriptors edidOf reading blockOf judged recordOf slotNumber tagNumber timingIn productOf blank noFlags pushFlag noStandard pushStandard noDetailed pushDetailed noPoints pushPoint noDescriptors pushDescriptor acrossOf downOf ofBits ofInt add div
+unfolding cases shortest longest six specimen lobby holding named byte word long header maker date product version inputOf input sizeOf gammaFrom dpmsOf dpms display color front flag establishedOf established standardOf pairOf pair pairs scan padding skip span text syncOf fitted axes timingOf timed detailed spaces closing pointOf point ended second points white stringOf string rawOf raw tagged descriptor begun slots descriptors edidOf reading blockOf judged recordOf slotNumber tagNumber timingIn productOf blank noFlags pushFlag noStandard pushStandard noDetailed pushDetailed noPoints pushPoint noDescriptors pushDescriptor acrossOf downOf ofBits ofInt add div
 cases-hold = (refl, (refl, (refl, (refl, (refl, (refl, (refl, (refl, (refl, (refl, (refl, (refl, (refl, (refl, (refl, (refl, (refl, tt)))))))))))))))))

@@ -1,2 +1,3 @@
 -- What the fixed lists of both readings rest on.
 pub mod Fixed
+pub mod Gather

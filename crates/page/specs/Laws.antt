@@ -34,8 +34,9 @@ unfolding _▷_
 joined p [] cs = refl
 joined p (b ∷ bs) cs = joined (and p b) bs cs
 
-pub joined-bytes : (p : Page) (a b : ℕ) → p ▷ (a ∷ []) ▷ (b ∷ []) ≡ p ▷ (a ∷ b ∷ [])
-joined-bytes p a b = joined p (a ∷ []) (b ∷ [])
+-- an append after another
+pub after : (p : Page) {q r : Page} (bs cs : List ℕ) → q ≡ p ▷ bs → r ≡ q ▷ cs → r ≡ p ▷ (bs ++ cs)
+after p bs cs e f = f ∙ ap (λ (o : Page). o ▷ cs) e ∙ joined p bs cs
 
 -- ---- a chain of appends: p, then each of the pieces, is q
 
@@ -47,7 +48,7 @@ pub data Chain : Page → List (List ℕ) → Page → Type 0 where
 pub line : {p q : Page} {xs : List (List ℕ)} → Chain p xs q → q ≡ p ▷ flat xs
 unfolding flat
 line {p} done = nothing p
-line {p} {q} {xs = x ∷ xs} (e so f) = line f ∙ ap (λ (o : Page). o ▷ flat xs) e ∙ joined p x (flat xs)
+line {p} {xs = x ∷ xs} (e so f) = after p x (flat xs) e (line f)
 
 -- ---- decimals
 

@@ -10,7 +10,7 @@ use Rattle.standard_parts.specs.Head.{gammaOf}
 use Rattle.standard_parts.specs.declared.Point.{Point}
 use Rattle.standard_parts.specs.declared.Point.the-variants.{Skipped, Listed}
 
--- the low digits of x are four of `low` from digit k up, those of y under them
+-- of the four digits of `low` from digit k up the upper two are the low digits of x, the others those of y
 abbrev pub placeOf : ℕ → ℕ → ℕ → ℕ → Chromaticity
 placeOf low k x y = record { x = digits low (k + 2) 2 + 4 * x; y = digits low k 2 + 4 * y }
 

@@ -2,7 +2,7 @@
 use Prim.Native.Nat.{ℕ, _+_, _*_}
 use mathlib.Core.Bool.{cond}
 use lib.Dec.{eqb, leb}
-use Rattle.bits.specs.Fields.{digits, bit}
+use Rattle.bits.specs.Fields.{digits, bit, byCode}
 use Rattle.standard_record.specs.declared.Maker.{Maker}
 use Rattle.standard_record.specs.declared.Product.{Product}
 use Rattle.standard_record.specs.declared.VideoInput.{VideoInput}
@@ -14,10 +14,6 @@ use Rattle.standard_record.specs.declared.Gamma.the-variants as Gamma
 use Rattle.standard_record.specs.declared.DisplayType.{DisplayType}
 use Rattle.standard_record.specs.declared.DisplayType.the-variants.{Monochrome, RGBColor, OtherColor, Undefined}
 use Rattle.standard_record.specs.declared.Features.{Features}
-
--- the first, second or third of four at 0, 1 and 2, else the fourth
-abbrev pub byCode {ℓ} : {A : Type ℓ} → ℕ → A → A → A → A → A
-byCode n a b c d = cond (eqb n 0) a (cond (eqb n 1) b (cond (eqb n 2) c d))
 
 -- 1 to 26 are A to Z
 abbrev pub letterOf : ℕ → ℕ

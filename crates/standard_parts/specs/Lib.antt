@@ -4,4 +4,3 @@ pub mod Color
 pub mod Timings
 pub mod Descriptors
 pub mod Text
-pub mod Gather

@@ -3,7 +3,8 @@ use Prim.Native.Nat.{ℕ, _+_, _*_}
 use mathlib.Core.Bool.{Bool, true, false, cond}
 use mathlib.Core.List.{List, [], _∷_, _++_}
 use lib.Dec.{eqb}
-use Rattle.bits.specs.Fields.{digits, bit}
+use Rattle.bits.specs.Fields.{digits, bit, byCode}
+use Rattle.fixed.specs.Gather.{gather, when}
 use Rattle.timing.specs.Rest.{polarityOf}
 use Rattle.timing.specs.declared.AcrossRead.{AcrossRead}
 use Rattle.timing.specs.declared.DownRead.{DownRead}
@@ -17,8 +18,6 @@ use Rattle.standard_record.specs.declared.SyncLine.the-variants.{Green, RGB}
 use Rattle.standard_record.specs.declared.Sync.{Sync}
 use Rattle.standard_record.specs.declared.Sync.the-variants.{AnalogComposite, BipolarAnalogComposite, DigitalComposite, DigitalSeparate}
 use Rattle.standard_record.specs.declared.DetailedTiming.{DetailedTiming}
-use Rattle.standard_parts.specs.Head.{byCode}
-use Rattle.standard_parts.specs.Gather.{gather, when}
 use Rattle.standard_parts.specs.declared.Pair.{Pair}
 use Rattle.standard_parts.specs.declared.Pair.the-variants as Pair
 use Rattle.standard_parts.specs.declared.Timed.{Timed}

@@ -171,21 +171,14 @@ pub fn features_of(b24: u8) -> Features
 
 // ---- colour
 
-fn place_high(low: u8, x: u8, y: u8) -> Chromaticity
-    ensures { λ r. ⌜ r ≡ placeOf low 4 x y ⌝ }
+// The low digits of x are two of `low` from digit k + 2 up, those of y two from digit k.
+fn place_of(low: u8, k: u8, x: u8, y: u8) -> Chromaticity
+    requires { ⌜ k ≤ 4 ⌝ }
+    ensures { λ r. ⌜ r ≡ placeOf low k x y ⌝ }
 {
     Chromaticity {
-        x: bits::stack(x, bits::digits(low, 6, 2), 2),
-        y: bits::stack(y, bits::digits(low, 4, 2), 2),
-    }
-}
-
-fn place_low(low: u8, x: u8, y: u8) -> Chromaticity
-    ensures { λ r. ⌜ r ≡ placeOf low 0 x y ⌝ }
-{
-    Chromaticity {
-        x: bits::stack(x, bits::digits(low, 2, 2), 2),
-        y: bits::stack(y, bits::digits(low, 0, 2), 2),
+        x: bits::stack(x, bits::digits(low, k + 2, 2), 2),
+        y: bits::stack(y, bits::digits(low, k, 2), 2),
     }
 }
 
@@ -204,10 +197,10 @@ pub fn colors_of(
     ensures { λ r. ⌜ r ≡ colorsOf b25 b26 b27 b28 b29 b30 b31 b32 b33 b34 ⌝ }
 {
     Chromaticities {
-        red: place_high(b25, b27, b28),
-        green: place_low(b25, b29, b30),
-        blue: place_high(b26, b31, b32),
-        white: place_low(b26, b33, b34),
+        red: place_of(b25, 4, b27, b28),
+        green: place_of(b25, 0, b29, b30),
+        blue: place_of(b26, 4, b31, b32),
+        white: place_of(b26, 0, b33, b34),
     }
 }
 
@@ -219,7 +212,7 @@ pub fn point_of(index: u8, low: u8, x: u8, y: u8, gamma: u8) -> Point
     } else {
         Point::Listed(WhitePoint {
             index,
-            place: place_low(low, x, y),
+            place: place_of(low, 0, x, y),
             gamma: gamma_of(gamma),
         })
     }

@@ -2,6 +2,7 @@
 use Prim.Native.Nat.{ℕ}
 use mathlib.Core.Path.{_≡_}
 use mathlib.Core.List.{List, _++_}
+use Rattle.fixed.specs.Gather.{gather}
 use Rattle.steps.specs.One.{one-value}
 use Rattle.standard_record.specs.Filler.{blank}
 use Rattle.standard_record.specs.Lists.{whitePoints, establishedTimings, standardTimings, detailedTimings, descriptors}
@@ -16,7 +17,6 @@ use Rattle.standard_record.specs.declared.WhitePoint.{WhitePoint}
 use Rattle.standard_record.specs.declared.StandardTiming.{StandardTiming}
 use Rattle.standard_record.specs.declared.DetailedTiming.{DetailedTiming}
 use Rattle.standard_record.specs.declared.Held.{Held}
-use Rattle.standard_parts.specs.Gather.{gather}
 use Rattle.standard_parts.specs.Head.{productOf, inputOf, imageOf, gammaOf, featuresOf}
 use Rattle.standard_parts.specs.Color.{colorsOf}
 use Rattle.standard_parts.specs.Timings.{flagsOf}

@@ -4,6 +4,7 @@ use mathlib.Core.Bool.{Bool, false, cond}
 use mathlib.Core.List.{List, [], _∷_, _++_}
 use lib.Dec.{eqb, ltb}
 use Rattle.bits.specs.Fields.{bit}
+use Rattle.fixed.specs.Gather.{gather}
 use Rattle.steps.specs.declared.Span.{Span}
 use Rattle.timing.specs.declared.Size.{Size}
 use Rattle.timing.specs.declared.Border.{Border}
@@ -14,7 +15,6 @@ use Rattle.standard_record.specs.declared.WhitePoint.{WhitePoint}
 use Rattle.standard_record.specs.declared.Held.{Held}
 use Rattle.standard_record.specs.declared.Descriptor.{Descriptor}
 use Rattle.standard_record.specs.declared.Descriptor.the-variants.{Serial, Text, Range, Name, Undefined, MakerDefined}
-use Rattle.standard_parts.specs.Gather.{gather}
 use Rattle.standard_parts.specs.Color.{pointOf}
 use Rattle.standard_parts.specs.Timings.{pairOf, syncOf, timedBy}
 use Rattle.standard_parts.specs.Descriptors.{limitsOf, secondaryOf}

@@ -85,23 +85,12 @@ fn is_tagged(t: &[u8], tag: u8) -> bool
     }
 }
 
-fn first_point(t: &[u8]) -> Point
-    requires { ⌜ length (now t) ≡ 18 ⌝ }
-    ensures { λ r. ⌜ r ≡ pointAt (now (t .entry)) 5 ⌝ }
+fn point_at(t: &[u8], k: usize) -> Point
+    requires { ⌜ (length (now t) ≡ 18) × (k + 5 ≤ 18) ⌝ }
+    ensures { λ r. ⌜ r ≡ pointAt (now (t .entry)) k ⌝ }
 {
     if is_tagged(t, 0xfb) {
-        standard_parts::point_of(t[5], t[6], t[7], t[8], t[9])
-    } else {
-        Point::Skipped
-    }
-}
-
-fn second_point(t: &[u8]) -> Point
-    requires { ⌜ length (now t) ≡ 18 ⌝ }
-    ensures { λ r. ⌜ r ≡ pointAt (now (t .entry)) 10 ⌝ }
-{
-    if is_tagged(t, 0xfb) {
-        standard_parts::point_of(t[10], t[11], t[12], t[13], t[14])
+        standard_parts::point_of(t[k], t[k + 1], t[k + 2], t[k + 3], t[k + 4])
     } else {
         Point::Skipped
     }
@@ -189,13 +178,13 @@ fn points_of(s: &[u8]) -> WhitePoints
     while i < 4 {
         let at = 54 + 18 * i;
         let t = &s[at..at + 18];
-        if let Point::Listed(p) = first_point(t) {
+        if let Point::Listed(p) = point_at(t, 5) {
             if len < 6 {
                 items[len] = p;
                 len += 1;
             }
         }
-        if let Point::Listed(p) = second_point(t) {
+        if let Point::Listed(p) = point_at(t, 10) {
             if len < 6 {
                 items[len] = p;
                 len += 1;

@@ -11,7 +11,7 @@ ghost use Rattle.standard_verdict.specs.Verdict.{isHeader, unless, _▷_
 // ---- one slot: t is its 18 bytes
 
 // The byte at k; past the end it is 0.
-pub fn byte_at(t: &[u8], k: usize) -> u8
+fn byte_at(t: &[u8], k: usize) -> u8
     ensures { λ r. ⌜ r ≡ now (t .entry) ! k ⌝ }
 {
     if k < t.len() { t[k] } else { 0 }

@@ -2,12 +2,12 @@
 use Prim.Native.Nat.{ℕ, suc, _+_, _-_, _≤_, _<_}
 use native.Mathlib.Omega.{arith}
 use mathlib.Core.Path.{_≡_, refl, sym, _∙_, ap, subst}
-use mathlib.Core.Bool.{Bool, true, false, _||_}
+use mathlib.Core.Bool.{Bool, true, false, _||_, cond}
 use mathlib.Core.List.{List}
 use lib.Dec.{ltb}
 use lib.ListN.{length, getD}
 use borrow.Author.Tests.{lt-ltb, le-ltb, ltb-true, ltb-false}
-use Rattle.steps.specs.Steps.{Steps, done, refuse, next, here, _>>=_, Outcome, refused, run, andThen, ensure, pick}
+use Rattle.steps.specs.Steps.{Steps, done, refuse, next, here, _>>=_, Outcome, refused, run, andThen, ensure}
 use Rattle.steps.specs.Leaves.{byte, two, four, ofTwo, ofFour, ended, Filled, Beside}
 use Rattle.steps.specs.declared.TwoRead.{TwoRead}
 use Rattle.steps.specs.declared.FourRead.{FourRead}
@@ -80,11 +80,11 @@ pub failed : {B : Type 0} (t : Bool) (k : ℕ) (g : Unit → Steps B) (s : List 
     → t ≡ false → run (ensure t k >>= g) s at ≡ refused k at
 failed t k g s at e = ap (λ (b : Bool). run (ensure b k >>= g) s at) e
 
-pub picked : {A : Type 0} (t : Bool) (a b : A) → t ≡ true → pick t a b ≡ a
-picked t a b e = ap (λ (u : Bool). pick u a b) e
+pub picked : {A : Type 0} (t : Bool) (a b : A) → t ≡ true → cond t a b ≡ a
+picked t a b e = ap (λ (u : Bool). cond u a b) e
 
-pub picked-not : {A : Type 0} (t : Bool) (a b : A) → t ≡ false → pick t a b ≡ b
-picked-not t a b e = ap (λ (u : Bool). pick u a b) e
+pub picked-not : {A : Type 0} (t : Bool) (a b : A) → t ≡ false → cond t a b ≡ b
+picked-not t a b e = ap (λ (u : Bool). cond u a b) e
 
 -- which of two tests holds, as nested tests in the code find it
 pub either-first : (a b : Bool) → a ≡ true → (a || b) ≡ true

@@ -6,7 +6,9 @@ use Rattle.standard_parts.proofs.colors_of.Tie as tie
 
 returns : tie.Need-returns
 unfolding colorsOf
-returns c = cc
+returns c =
+    let b = c .before .before in
+    rw (c .place-of4 .ensures, c .before .place-of3 .ensures, b .place-of2 .ensures, b .before .place-of .ensures)
 
 pub colors-of-spec : {M : Type 1} → statement M
 colors-of-spec =

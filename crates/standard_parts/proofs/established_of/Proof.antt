@@ -7,10 +7,10 @@ use Prim.Native.Nat.{ℕ, _-_, _≤_}
 use native.Mathlib.Nat.{mod-eq-of-lt}
 use native.Mathlib.Omega.{arith}
 use borrow.Author.Needs.{needs}
+use Rattle.fixed.specs.Gather.{gather, when, Holds, gather-more, took, full, kept}
 use Rattle.standard_record.specs.declared.EstablishedTimings.{EstablishedTimings}
 use Rattle.standard_record.specs.Lists.{establishedTimings}
 use Rattle.bits.specs.Fields.{bit}
-use Rattle.standard_parts.specs.Gather.{gather, when, Holds, gather-more, took, full, kept}
 use Rattle.standard_parts.specs.Timings.{flagsOf}
 use Rattle.standard_parts.proofs.established_of.Statement.{statement}
 use Rattle.standard_parts.proofs.established_of.Tie as tie

@@ -6,7 +6,19 @@ use Rattle.standard_parts.proofs.features_of.Tie as tie
 
 returns : tie.Need-returns
 unfolding featuresOf
-returns c = cc
+returns c =
+    let k = c .before .before .before in
+    let b = k .before .before in
+    rw (
+      c .is-set6 .ensures,
+      c .before .is-set5 .ensures,
+      c .before .before .is-set4 .ensures,
+      k .type-of .ensures,
+      k .before .digits .ensures,
+      b .is-set3 .ensures,
+      b .before .is-set2 .ensures,
+      b .before .before .is-set .ensures,
+    )
 
 pub features-of-spec : {M : Type 1} → statement M
 features-of-spec =

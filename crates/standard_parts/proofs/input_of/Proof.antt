@@ -7,11 +7,22 @@ use Rattle.standard_parts.proofs.input_of.Tie as tie
 
 returns : tie.Need-returns
 unfolding inputOf
-returns c = simp (sym (c .before .before .is-set .ensures) ∙ c .before .if1 .taken) (cc)
+returns c = simp (sym (c .before .before .is-set .ensures) ∙ c .before .if1 .taken) (rw (c .is-set2 .ensures))
 
 returns-2 : tie.Need-returns-2
 unfolding inputOf
-returns-2 c = simp (sym (c .before .before .before .before .before .before .before .is-set .ensures) ∙ c .before .before .before .before .before .before .if1 .left) (cc)
+returns-2 c =
+    let b = c .before .before .before in
+    let e = b .before .before .before in
+    simp (sym (e .before .is-set .ensures) ∙ e .if1 .left)
+    (rw (
+      c .is-set7 .ensures,
+      c .before .is-set6 .ensures,
+      c .before .before .is-set5 .ensures,
+      b .is-set4 .ensures,
+      b .before .is-set3 .ensures,
+      b .before .before .digits .ensures,
+    ))
 
 pub input-of-spec : {M : Type 1} → statement M
 input-of-spec =

@@ -13,7 +13,13 @@ returns-2 : tie.Need-returns-2
 unfolding pairOf
 returns-2 c =
     let t = c .before .before in
-    rw (← t .before .before .word .ensures, ne-eqb _ _ (t .before .if1 .left)) (cc)
+    rw (
+      ← t .before .before .word .ensures,
+      ne-eqb _ _ (t .before .if1 .left),
+      c .digits2 .ensures,
+      c .before .ratio-of .ensures,
+      t .digits .ensures,
+    )
 
 pub pair-of-spec : {M : Type 1} → statement M
 pair-of-spec =

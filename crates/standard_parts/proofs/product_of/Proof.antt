@@ -6,7 +6,9 @@ use Rattle.standard_parts.proofs.product_of.Tie as tie
 
 returns : tie.Need-returns
 unfolding productOf
-returns c = cc
+returns c =
+    let b = c .before .before in
+    rw (c .long .ensures, c .before .word3 .ensures, b .word2 .ensures, b .before .word .ensures, b .before .before .maker-of .ensures)
 
 pub product-of-spec : {M : Type 1} → statement M
 product-of-spec =

@@ -11,7 +11,7 @@ returns c = rw (c .match .keys1)
 
 returns-2 : tie.Need-returns-2
 unfolding secondaryOf
-returns-2 c = rw (c .before .match .keys2) (cc)
+returns-2 c = rw (c .before .match .keys2, c .word .ensures)
 
 returns-3 : tie.Need-returns-3
 unfolding secondaryOf

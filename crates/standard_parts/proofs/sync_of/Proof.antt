@@ -4,7 +4,9 @@ use Rattle.standard_parts.proofs.sync_of.Statement.{statement}
 use Rattle.standard_parts.proofs.sync_of.Tie as tie
 
 returns : tie.Need-returns
-returns c = cc
+returns c =
+    let b = c .before .before in
+    rw (c .sync-by .ensures, c .before .is-set2 .ensures, b .is-set .ensures, b .before .digits .ensures)
 
 pub sync-of-spec : {M : Type 1} → statement M
 sync-of-spec =

@@ -4,7 +4,10 @@ use Rattle.standard_reading.proofs.display_at.Statement.{statement}
 use Rattle.standard_reading.proofs.display_at.Tie as tie
 
 returns : tie.Need-returns
-returns c = cc
+returns c =
+    let g = c .before .before in
+    let m = g .before .before in
+    rw (c .features-of .ensures, g .gamma-of .ensures, m .image-of .ensures, m .before .before .before .input-of .ensures)
 
 pub display-at-spec : {M : Type 1} → statement M
 display-at-spec =

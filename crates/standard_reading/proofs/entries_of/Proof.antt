@@ -5,7 +5,7 @@ use Prim.Native.Nat.{_-_, _≤_}
 use native.Mathlib.Nat.{add-sub-cancel-left}
 use native.Mathlib.Omega.{arith}
 use borrow.Author.Needs.{needs}
-use Rattle.standard_parts.specs.Gather.{Holds, gather-more, took, full, kept}
+use Rattle.fixed.specs.Gather.{Holds, gather-more, took, full, kept}
 use Rattle.standard_record.specs.Filler.{blankHeld}
 use Rattle.standard_reading.specs.Slot.{ofEntry}
 use Rattle.standard_reading.specs.Block.{entriesOf}

@@ -5,8 +5,8 @@ use mathlib.Core.List.{List, _++_, append-assoc}
 use Prim.Native.Nat.{_+_, _-_, _≤_}
 use native.Mathlib.Omega.{arith}
 use borrow.Author.Needs.{needs}
+use Rattle.fixed.specs.Gather.{Holds, gather-more, took, full, kept}
 use Rattle.standard_record.specs.declared.StandardTimings.{StandardTimings}
-use Rattle.standard_parts.specs.Gather.{Holds, gather-more, took, full, kept}
 use Rattle.standard_record.specs.declared.StandardTiming.{StandardTiming}
 use Rattle.standard_record.specs.Filler.{blankStandard}
 use Rattle.standard_reading.specs.Slot.{pairsAt, ofPair}

@@ -8,7 +8,7 @@ use native.Mathlib.Nat.{add-sub-cancel-left}
 use native.Mathlib.Omega.{arith}
 use denote.Ref.{now}
 use borrow.Author.Needs.{needs}
-use Rattle.standard_parts.specs.Gather.{gather-more}
+use Rattle.fixed.specs.Gather.{gather-more}
 use Rattle.standard_record.specs.Lists.{standardTimings}
 use Rattle.standard_verdict.specs.Verdict.{slot}
 use Rattle.standard_reading.specs.Block.{pairsOf}

@@ -6,7 +6,7 @@ use Prim.Native.Nat.{_-_, _≤_}
 use native.Mathlib.Nat.{add-sub-cancel-left}
 use native.Mathlib.Omega.{arith}
 use borrow.Author.Needs.{needs}
-use Rattle.standard_parts.specs.Gather.{Holds, gather-more, took, full, kept}
+use Rattle.fixed.specs.Gather.{Holds, gather-more, took, full, kept}
 use Rattle.standard_record.specs.Filler.{blankWhite}
 use Rattle.standard_reading.specs.Slot.{ofPoint}
 use Rattle.standard_reading.specs.Block.{pointsOf}
@@ -28,8 +28,8 @@ loop-again c =
     let m = b .before in
     let a = m .before in
     let l = a .before .before .before in
-    let told = sym (rw add-sub-cancel-left at (a .first-point .ensures)) in
-    let told2 = sym (rw add-sub-cancel-left at (b .second-point .ensures)) in
+    let told = sym (rw add-sub-cancel-left at (a .point-at .ensures)) in
+    let told2 = sym (rw add-sub-cancel-left at (b .point-at2 .ensures)) in
     let h =
     ⊎-elim (λ w. took (l .loop .inv .1) (ap ofPoint (told ∙ w .1 .given .1)) (w .3 .taken) (w .4) (w .5))
     (⊎-elim (λ w. full (l .loop .inv .1) (ap ofPoint (told ∙ w .1 .given .1)) (w .3 .left) (w .4) (w .5))

@@ -19,19 +19,19 @@ returns-3 c = rw (c .match .keys3)
 
 returns-4 : tie.Need-returns-4
 unfolding taggedIn
-returns-4 c = rw (c .before .match .keys4) (cc)
+returns-4 c = rw (c .before .match .keys4, c .text-in .ensures)
 
 returns-5 : tie.Need-returns-5
 unfolding taggedIn
-returns-5 c = rw (c .before .match .keys5) (cc)
+returns-5 c = rw (c .before .match .keys5, c .range-in .ensures)
 
 returns-6 : tie.Need-returns-6
 unfolding taggedIn
-returns-6 c = rw (c .before .match .keys6) (cc)
+returns-6 c = rw (c .before .match .keys6, c .text-in2 .ensures)
 
 returns-7 : tie.Need-returns-7
 unfolding taggedIn
-returns-7 c = rw (c .before .match .keys7) (cc)
+returns-7 c = rw (c .before .match .keys7, c .text-in3 .ensures)
 
 returns-8 : tie.Need-returns-8
 unfolding taggedIn

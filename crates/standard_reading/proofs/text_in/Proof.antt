@@ -4,7 +4,7 @@ use Rattle.standard_reading.proofs.text_in.Statement.{statement}
 use Rattle.standard_reading.proofs.text_in.Tie as tie
 
 returns : tie.Need-returns
-returns c = cc
+returns c = rw (c .text-length .ensures)
 
 pub text-in-spec : {M : Type 1} → statement M
 text-in-spec =

@@ -6,7 +6,7 @@ use denote.Ref.{now}
 use native.Mathlib.Nat.{add-sub-cancel-left}
 use native.Mathlib.Omega.{arith}
 use borrow.Author.Needs.{needs}
-use Rattle.standard_parts.specs.Gather.{Holds, gather-more, took, full, kept}
+use Rattle.fixed.specs.Gather.{Holds, gather-more, took, full, kept}
 use Rattle.standard_record.specs.Filler.{blankDetailed}
 use Rattle.standard_verdict.specs.Verdict.{slot}
 use Rattle.standard_reading.specs.Block.{timingsOf}

@@ -11,7 +11,7 @@ returns c = rw (c .before .before .match .keys1) (c .closing-of .ensures)
 
 returns-2 : tie.Need-returns-2
 unfolding tagNumber
-returns-2 c = rw (c .before .before .before .before .match .keys2) (cc)
+returns-2 c = rw (c .before .before .before .before .match .keys2, c .closing-of2 .ensures, c .before .all-spaces .ensures)
 
 returns-3 : tie.Need-returns-3
 unfolding tagNumber
@@ -19,7 +19,7 @@ returns-3 c = rw (c .before .match .keys3) (c .text-number .ensures)
 
 returns-4 : tie.Need-returns-4
 unfolding tagNumber
-returns-4 c = rw (c .before .before .before .before .before .match .keys4) (cc)
+returns-4 c = rw (c .before .before .before .before .before .match .keys4, c .reserved-of .ensures, c .before .all-spaces2 .ensures)
 
 returns-5 : tie.Need-returns-5
 unfolding tagNumber
