@@ -16,14 +16,14 @@ def missing():
     return None if shutil.which("edid-decode") else "there is no edid-decode; Debian's package edid-decode has it"
 
 
-def compare(folder, program):
-    """Prints where the two part, file by file; the number of files that part."""
+def compare(folder, replay):
+    """Prints where the two part, file by file; the number of files that part. replay is the words that run the standard reading."""
     blocks = {}
     for name in sorted(e.name for e in os.scandir(folder) if e.is_file() and e.name.endswith(".bin")):
         with open(os.path.join(folder, name), "rb") as f:
             blocks[name] = f.read(128)
     frames = b"".join(struct.pack("<H", len(block)) + block for block in blocks.values())
-    listings = subprocess.run([program], input=frames, stdout=subprocess.PIPE, check=True).stdout.decode("ascii").split("--\n")
+    listings = subprocess.run(replay, input=frames, stdout=subprocess.PIPE, check=True).stdout.decode("ascii").split("--\n")
     alike = parting = refused = facts = 0
     for (name, block), listing in zip(blocks.items(), listings):
         ours, theirs = our_facts(listing, block), their_facts(block)

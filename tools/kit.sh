@@ -15,20 +15,23 @@ quietly() { # COMMAND WORD..
     }
 }
 
-# Installs the Debian packages of a command that is missing, where root has apt-get; elsewhere names them and ends.
+# Installs Debian packages, where root has apt-get.
+install_packages() { # PACKAGE..
+    [ "$(id -u)" = 0 ] && command -v apt-get >/dev/null || return 1
+    echo "installing $*" >&2
+    install="apt-get -o DPkg::Lock::Timeout=60 install -y --no-install-recommends"
+    $install "$@" >/dev/null 2>&1 || {
+        quietly apt-get update
+        quietly $install "$@"
+    }
+}
+
+# Installs the packages of a command that is missing, or names them and ends.
 want() { # COMMAND PACKAGE..
     wanted=$1
     shift
     ! command -v "$wanted" >/dev/null || return 0
-    if [ "$(id -u)" = 0 ] && command -v apt-get >/dev/null; then
-        echo "installing $*" >&2
-        install="apt-get -o DPkg::Lock::Timeout=60 install -y --no-install-recommends"
-        $install "$@" >/dev/null 2>&1 || {
-            quietly apt-get update
-            quietly $install "$@"
-        }
-    fi
-    command -v "$wanted" >/dev/null || {
+    install_packages "$@" || {
         echo "$(basename "$0"): there is no $wanted. Debian has it: apt-get install $*" >&2
         exit 1
     }
