@@ -1,12 +1,12 @@
 -- The longest listing is below a page, so what is written of a page is the listing, whole.
-use Prim.Native.Nat.{ℕ, _≤_, min}
+use Prim.Native.Nat.{ℕ, _≤_}
 use mathlib.Core.List.{List}
 use mathlib.Core.Path.{_≡_}
 use native.Mathlib.Omega.{arith}
-use lib.ListN.{length, take, drop, length-append, length-take}
+use lib.ListN.{length, take, drop, length-append}
 use Rattle.page.specs.Page.{page, _▷_}
 use Rattle.page.specs.Words.{flat}
-use Rattle.page.specs.Lengths.{field-length, field16-length, field8-length, float-length, each-length}
+use Rattle.page.specs.Lengths.{field-length, field16-length, field8-length, float-length, first-length}
 use Rattle.shared_lines.specs.Short.{numbers-length, version-length, flags-length, digital-length, dpms-length, established-length, extensions-length, refuse-length}
 use Rattle.page.specs.Meaning.{whole, only}
 use Rattle.steps.specs.declared.Cursor.{Cursor}
@@ -98,8 +98,7 @@ white-length w =
 
 white-lengths : (l : WhitePoints) → length (whiteLines l) ≤ 222
 unfolding whiteLines
-white-lengths l =
-    omega (arith, each-length whiteLine 37 white-length (take (min (l .len) 6) (l .items)), length-take (min (l .len) 6) (l .items))
+white-lengths l = first-length whiteLine 37 6 white-length (l .len) (l .items)
 
 standard-length : (t : StandardTiming) → length (standardLine t) ≤ 30
 unfolding standardLine flat
@@ -107,8 +106,7 @@ standard-length t = simp length-append (omega (arith, field16-length (t .width),
 
 standard-lengths : (l : StandardTimings) → length (standardLines l) ≤ 780
 unfolding standardLines
-standard-lengths l =
-    omega (arith, each-length standardLine 30 standard-length (take (min (l .len) 26) (l .items)), length-take (min (l .len) 26) (l .items))
+standard-lengths l = first-length standardLine 30 26 standard-length (l .len) (l .items)
 
 accept-length : (c : Cursor) → length (acceptLine c) ≤ 28
 unfolding acceptLine flat

@@ -1,10 +1,10 @@
 -- How long the lines of the slots can be.
-use Prim.Native.Nat.{ℕ, _≤_, min}
+use Prim.Native.Nat.{ℕ, _≤_}
 use mathlib.Core.List.{List}
 use native.Mathlib.Omega.{arith}
-use lib.ListN.{length, take, length-append, length-take}
+use lib.ListN.{length, length-append}
 use Rattle.page.specs.Words.{text, flat}
-use Rattle.page.specs.Lengths.{field32-length, flag-length, float-length, each-length}
+use Rattle.page.specs.Lengths.{field32-length, flag-length, float-length, first-length}
 use Rattle.shared_lines.specs.Short.{axes-length, border-length, polarity-length, text-length, raw-length, run-length, limits-length}
 use Rattle.crate_record.specs.declared.SyncLine.the-variants.{RGB, Green, Digital}
 use Rattle.crate_record.specs.declared.SyncType.{SyncType}
@@ -42,8 +42,7 @@ detailed-length d =
 
 pub detailed-lengths : (l : DetailedTimings) → length (detailedLines l) ≤ 440
 unfolding detailedLines
-detailed-lengths l =
-    omega (arith, each-length detailedLine 110 detailed-length (take (min (l .len) 4) (l .items)), length-take (min (l .len) 4) (l .items))
+detailed-lengths l = first-length detailedLine 110 4 detailed-length (l .len) (l .items)
 
 secondary-length : (s : List ℕ) (t : SecondaryTiming) → length (secondary s t) ≤ 51
 unfolding secondary flat
@@ -73,5 +72,4 @@ held-length s h = descriptor-length s (h .descriptor)
 
 pub descriptor-lengths : (s : List ℕ) (l : MonitorDescriptors) → length (descriptorLines s l) ≤ 294
 unfolding descriptorLines
-descriptor-lengths s l =
-    omega (arith, each-length (heldLine s) 98 (held-length s) (take (min (l .len) 3) (l .items)), length-take (min (l .len) 3) (l .items))
+descriptor-lengths s l = first-length (heldLine s) 98 3 (held-length s) (l .len) (l .items)

@@ -1,11 +1,12 @@
 -- How long a piece can be, so that a listing is seen to fit its page.
-use Prim.Native.Nat.{ℕ, zero, suc, _+_, _*_, _/_, _≤_}
+use Prim.Native.Nat.{ℕ, zero, suc, _+_, _*_, _/_, _≤_, min}
 use mathlib.Core.Bool.{Bool, true, false, cond}
 use mathlib.Core.List.{List, [], _∷_}
 use native.Mathlib.Omega.{arith}
+use native.Mathlib.Nat.{le-trans, mul-le-mul-left}
 use lib.Dec.{ltb}
 use lib.Ieee.{Float}
-use lib.ListN.{length, length-append}
+use lib.ListN.{length, take, length-append, length-take}
 use Rattle.page.specs.Words.{decimalIn, field, field32, field16, field8, flag, hexOf2, hexOf4, hexOf8, float, each}
 
 pub either : (t : Bool) (a b : List ℕ) (k : ℕ) → length a ≤ k → length b ≤ k → length (cond t a b) ≤ k
@@ -48,7 +49,14 @@ pub byte-length : (b : ℕ) → length (hexOf2 b) ≤ 2
 unfolding hexOf2
 byte-length b = omega arith
 
-pub each-length : {A : Type 0} (f : A → List ℕ) (k : ℕ) → ((x : A) → length (f x) ≤ k) → (xs : List A) → length (each f xs) ≤ k * length xs
+each-length : {A : Type 0} (f : A → List ℕ) (k : ℕ) → ((x : A) → length (f x) ≤ k) → (xs : List A) → length (each f xs) ≤ k * length xs
 unfolding each
 each-length f k h [] = omega arith
 each-length f k h (x ∷ xs) = let a = h x in let r = each-length f k h xs in simp length-append (omega arith)
+
+-- of the first n of a list at most
+pub first-length : {A : Type 0} (f : A → List ℕ) (k n : ℕ) → ((x : A) → length (f x) ≤ k)
+    → (len : ℕ) (xs : List A) → length (each f (take (min len n) xs)) ≤ k * n
+first-length f k n h len xs =
+    let fewer : length (take (min len n) xs) ≤ n = omega (arith, length-take (min len n) xs) in
+    le-trans (each-length f k h (take (min len n) xs)) (mul-le-mul-left k fewer)

@@ -1,11 +1,11 @@
 -- How long the lines of both listings can be.
-use Prim.Native.Nat.{ℕ, _+_, _≤_, min}
+use Prim.Native.Nat.{ℕ, _+_, _≤_}
 use mathlib.Core.Bool.{Bool}
 use mathlib.Core.List.{List}
 use native.Mathlib.Omega.{arith}
-use lib.ListN.{length, take, drop, length-append, length-take}
+use lib.ListN.{length, drop, length-append}
 use Rattle.page.specs.Words.{hexOf2, field8, flat}
-use Rattle.page.specs.Lengths.{field-length, field32-length, field16-length, field8-length, flag-length, byte-length, each-length}
+use Rattle.page.specs.Lengths.{field-length, field32-length, field16-length, field8-length, flag-length, byte-length, first-length}
 use Rattle.steps.specs.declared.Refusal.{Refusal}
 use Rattle.steps.specs.declared.Span.{Span}
 use Rattle.timing.specs.declared.Across.{Across}
@@ -54,7 +54,7 @@ dpms-length standby suspend lowpower kind srgb preferred gtf =
 pub established-length : (items : List ℕ) (len : ℕ) → length (establishedLine items len) ≤ 80
 unfolding establishedLine flat
 established-length items len =
-    simp length-append (omega (arith, each-length field8 4 field8-length (take (min len 17) items), length-take (min len 17) items))
+    simp length-append (omega (arith, first-length field8 4 17 field8-length len items))
 
 pub axes-length : (clock : ℕ) (a : Across) (d : Down) → length (axes clock a d) ≤ 67
 unfolding axes flat
@@ -91,9 +91,7 @@ text-length word d = simp length-append (omega (arith, field-length (d .start), 
 pub raw-length : (s : List ℕ) (n : ℕ) (d : Span) → length (raw s n d) ≤ 31
 unfolding raw flat
 raw-length s n d =
-    let run = take (min (d .len) 13) (drop (d .start) s) in
-    simp length-append
-    (omega (arith, field8-length n, each-length hexOf2 2 byte-length run, length-take (min (d .len) 13) (drop (d .start) s)))
+    simp length-append (omega (arith, field8-length n, first-length hexOf2 2 13 byte-length (d .len) (drop (d .start) s)))
 
 pub run-length : (word s : List ℕ) (tag : ℕ) (d : Span) → length (rawLine word s tag d) ≤ length word + 32
 unfolding rawLine flat

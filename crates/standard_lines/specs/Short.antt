@@ -1,13 +1,13 @@
 -- The longest listing is below a page, so what is written of a page is the listing, whole.
-use Prim.Native.Nat.{ℕ, _≤_, min}
+use Prim.Native.Nat.{ℕ, _≤_}
 use mathlib.Core.List.{List}
 use mathlib.Core.Path.{_≡_}
 use native.Mathlib.Omega.{arith}
 use lib.Dec.{eqb}
-use lib.ListN.{length, take, drop, length-append, length-take}
+use lib.ListN.{length, take, drop, length-append}
 use Rattle.page.specs.Page.{page, _▷_}
 use Rattle.page.specs.Words.{flat}
-use Rattle.page.specs.Lengths.{either, field16-length, field8-length, each-length}
+use Rattle.page.specs.Lengths.{either, field16-length, field8-length, first-length}
 use Rattle.page.specs.Meaning.{whole, only}
 use Rattle.shared_lines.specs.Short.{numbers-length, version-length, flags-length, digital-length, dpms-length, established-length, extensions-length, refuse-length}
 use Rattle.standard_record.specs.declared.Product.{Product}
@@ -100,8 +100,7 @@ white-length w =
 
 white-lengths : (l : WhitePoints) → length (whiteLines l) ≤ 168
 unfolding whiteLines
-white-lengths l =
-    omega (arith, each-length whiteLine 28 white-length (take (min (l .len) 6) (l .items)), length-take (min (l .len) 6) (l .items))
+white-lengths l = first-length whiteLine 28 6 white-length (l .len) (l .items)
 
 standard-length : (t : StandardTiming) → length (standardLine t) ≤ 33
 unfolding standardLine flat
@@ -111,8 +110,7 @@ standard-length t =
 
 standard-lengths : (l : StandardTimings) → length (standardLines l) ≤ 858
 unfolding standardLines
-standard-lengths l =
-    omega (arith, each-length standardLine 33 standard-length (take (min (l .len) 26) (l .items)), length-take (min (l .len) 26) (l .items))
+standard-lengths l = first-length standardLine 33 26 standard-length (l .len) (l .items)
 
 record-length : (s : List ℕ) (e : StandardRecord) → length (recordLines s e) ≤ 1980
 unfolding recordLines flat

@@ -1,10 +1,10 @@
 -- How long the lines of the slots can be.
-use Prim.Native.Nat.{ℕ, _≤_, min}
+use Prim.Native.Nat.{ℕ, _≤_}
 use mathlib.Core.List.{List}
 use native.Mathlib.Omega.{arith}
-use lib.ListN.{length, take, length-append, length-take}
+use lib.ListN.{length, length-append}
 use Rattle.page.specs.Words.{text, flat}
-use Rattle.page.specs.Lengths.{field32-length, field16-length, field8-length, flag-length, each-length}
+use Rattle.page.specs.Lengths.{field32-length, field16-length, field8-length, flag-length, first-length}
 use Rattle.shared_lines.specs.Short.{axes-length, border-length, polarity-length, text-length, raw-length, run-length, limits-length}
 use Rattle.standard_record.specs.declared.Sync.{Sync}
 use Rattle.standard_record.specs.declared.Sync.the-variants.{AnalogComposite, BipolarAnalogComposite, DigitalComposite, DigitalSeparate}
@@ -41,8 +41,7 @@ detailed-length d =
 
 pub detailed-lengths : (l : DetailedTimings) → length (detailedLines l) ≤ 424
 unfolding detailedLines
-detailed-lengths l =
-    omega (arith, each-length detailedLine 106 detailed-length (take (min (l .len) 4) (l .items)), length-take (min (l .len) 4) (l .items))
+detailed-lengths l = first-length detailedLine 106 4 detailed-length (l .len) (l .items)
 
 secondary-length : (s : List ℕ) (t : SecondaryTiming) → length (secondary s t) ≤ 37
 unfolding secondary flat
@@ -72,5 +71,4 @@ held-length s h = descriptor-length s (h .descriptor)
 
 pub descriptor-lengths : (s : List ℕ) (l : Descriptors) → length (descriptorLines s l) ≤ 252
 unfolding descriptorLines
-descriptor-lengths s l =
-    omega (arith, each-length (heldLine s) 84 (held-length s) (take (min (l .len) 3) (l .items)), length-take (min (l .len) 3) (l .items))
+descriptor-lengths s l = first-length (heldLine s) 84 3 (held-length s) (l .len) (l .items)
