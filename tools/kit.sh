@@ -15,24 +15,20 @@ quietly() { # COMMAND WORD..
     }
 }
 
-# Installs Debian packages, where root has apt-get.
+# Installs Debian packages, where root has apt-get; whether it could.
 install_packages() { # PACKAGE..
     [ "$(id -u)" = 0 ] && command -v apt-get >/dev/null || return 1
     echo "installing $*" >&2
     install="apt-get -o DPkg::Lock::Timeout=60 install -y --no-install-recommends"
-    $install "$@" >/dev/null 2>&1 || {
-        quietly apt-get update
-        quietly $install "$@"
-    }
+    $install "$@" >/dev/null 2>&1 || { apt-get update >/dev/null 2>&1 && $install "$@" >/dev/null; }
 }
 
-# Installs the packages of a command that is missing, or names them and ends.
+# Installs the packages of a command that is missing; where that cannot be, names them and ends with 77.
 want() { # COMMAND PACKAGE..
     wanted=$1
     shift
-    ! command -v "$wanted" >/dev/null || return 0
-    install_packages "$@" || {
+    command -v "$wanted" >/dev/null || { install_packages "$@" && command -v "$wanted" >/dev/null; } || {
         echo "$(basename "$0"): there is no $wanted. Debian has it: apt-get install $*" >&2
-        exit 1
+        exit 77
     }
 }
