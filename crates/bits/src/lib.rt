@@ -1,7 +1,8 @@
-// Packed fields: the code has & | << >>, the contracts have / % * + alone.
+// Packed fields: the code has & | << >>, the contracts have / % * + alone. And the bytes of a slice by their places.
 ghost use mathlib.Core.Path.{_≡_};
 ghost use Prim.Native.Nat.{_+_, _*_, _%_, _^_, _<_};
 ghost use Rattle.bits.specs.Fields.{digits, bit};
+ghost use Rattle.bits.specs.Bytes.{_!_, part};
 
 // The `width` binary digits of b from digit `shift` up: digits(b, 6, 2) are the top two. Both count modulo 8.
 pub fn digits(b: u8, shift: u8, width: u8) -> u8
@@ -51,4 +52,22 @@ pub fn stack(high: u8, low: u8, width: u8) -> u16
 {
     let under = digits(low, 0, width);
     (under as u16) | ((high as u16) << (width % 8))
+}
+
+// The byte at k; past the end it is 0.
+pub fn byte_at(s: &[u8], k: usize) -> u8
+    ensures { λ r. ⌜ r ≡ now (s .entry) ! k ⌝ }
+{
+    if k < s.len() { s[k] } else { 0 }
+}
+
+// The n bytes from k on, as far as there are any.
+pub fn part(s: &[u8], k: usize, n: usize) -> &[u8]
+    ensures { λ r. ⌜ now r ≡ part (now (s .entry)) k n ⌝ }
+{
+    if k >= s.len() {
+        return &s[0..0];
+    }
+    let rest = &s[k..];
+    if n <= rest.len() { &rest[0..n] } else { rest }
 }

@@ -5,6 +5,8 @@ use lib.Dec.{eqb, ltb}
 use Rattle.steps.specs.Steps.{Steps, done, _>>=_, _>>_, ensure}
 use Rattle.steps.specs.Leaves.{byte, word}
 use Rattle.steps.specs.declared.Span.{Span}
+use Rattle.tags.specs.Tags.{tagOf}
+use Rattle.tags.specs.declared.Tag.{Tag}
 use Rattle.crate_text.specs.Text.{skip, span, text}
 use Rattle.crate_record.specs.Single.{whole, gammaOf, coordinate, halfOf}
 use Rattle.crate_record.specs.declared.WhitePoint.{WhitePoint}
@@ -136,15 +138,19 @@ raw tag = do
 
 -- ---- the descriptor
 
+-- by what the tag names
+abbrev pub byTag : ℕ → Tag → Steps Slot
+byTag tag Tag.Dummy = done Nothing
+byTag tag Tag.Pairs = done Six
+byTag tag Tag.Points = white
+byTag tag Tag.Name = string tag
+byTag tag Tag.Range = range
+byTag tag Tag.Text = string tag
+byTag tag Tag.Serial = string tag
+byTag tag Tag.Raw = raw tag
+
 unfoldable pub tagged : ℕ → Steps Slot
-tagged tag =
-    cond (eqb tag 0x10) (done Nothing)
-    (cond (eqb tag 0xfa) (done Six)
-    (cond (eqb tag 0xfb) white
-    (cond (eqb tag 0xfc) (string tag)
-    (cond (eqb tag 0xfd) range
-    (cond (eqb tag 0xfe) (string tag)
-    (cond (eqb tag 0xff) (string tag) (raw tag)))))))
+tagged tag = byTag tag (tagOf tag)
 
 unfoldable pub descriptor : Steps Slot
 descriptor = do

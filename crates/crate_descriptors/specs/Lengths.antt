@@ -6,13 +6,15 @@ use lib.Dec.{eqb}
 use Rattle.steps.specs.Steps.{Steps, done, _>>=_}
 use Rattle.steps.specs.Leaves.{byte, word}
 use Rattle.steps.specs.Answers.{Ends, ends-map, ends-then, ends-cond, Takes, no-byte, takes-then, takes-ensured, takes-looser, takes-byte, takes-word}
+use Rattle.tags.specs.Tags.{tagOf}
+use Rattle.tags.specs.declared.Tag.{Tag}
 use Rattle.crate_record.specs.declared.WhitePoint.{WhitePoint}
 use Rattle.crate_text.specs.Text.{skip, span, text}
 use Rattle.crate_text.specs.Lengths.{takes-skip, takes-span, takes-text}
 use Rattle.crate_descriptors.specs.declared.Points.{Points}
 use Rattle.crate_descriptors.specs.declared.Slot.{Slot}
 use Rattle.crate_descriptors.specs.declared.Slot.the-variants.{Nothing, Described, White, Six}
-use Rattle.crate_descriptors.specs.Descriptors.{spaces, closing, point, ended, second, points, white, gtf, none, other, secondary, range, string, raw, tagged, descriptor}
+use Rattle.crate_descriptors.specs.Descriptors.{spaces, closing, point, ended, second, points, white, gtf, none, other, secondary, range, string, raw, byTag, tagged, descriptor}
 
 -- ---- the parts
 
@@ -116,17 +118,19 @@ whole-raw : (tag : ℕ) → Whole 13 13 (raw tag)
 unfolding raw
 whole-raw tag = whole-then (span 13) _ 13 13 0 0 (takes-span 13) (λ d. (omega arith, omega arith))
 
+whole-by-tag : (tag : ℕ) (t : Tag) → Whole 0 18 (byTag tag t)
+whole-by-tag tag Tag.Dummy = (omega arith, omega arith)
+whole-by-tag tag Tag.Pairs = (omega arith, omega arith)
+whole-by-tag tag Tag.Points = whole-looser white 13 18 0 18 (omega arith) (omega arith) whole-white
+whole-by-tag tag Tag.Name = whole-looser (string tag) 13 13 0 18 (omega arith) (omega arith) (whole-string tag)
+whole-by-tag tag Tag.Range = whole-looser range 13 13 0 18 (omega arith) (omega arith) whole-range
+whole-by-tag tag Tag.Text = whole-looser (string tag) 13 13 0 18 (omega arith) (omega arith) (whole-string tag)
+whole-by-tag tag Tag.Serial = whole-looser (string tag) 13 13 0 18 (omega arith) (omega arith) (whole-string tag)
+whole-by-tag tag Tag.Raw = whole-looser (raw tag) 13 13 0 18 (omega arith) (omega arith) (whole-raw tag)
+
 whole-tagged : (tag : ℕ) → Whole 0 18 (tagged tag)
 unfolding tagged
-whole-tagged tag =
-    let thirteen : (p : Steps Slot) → Whole 13 13 p → Whole 0 18 p = λ p. whole-looser p 13 13 0 18 (omega arith) (omega arith) in
-    ends-cond (eqb tag 0x10) (done Nothing) _ _ (omega arith, omega arith)
-    (ends-cond (eqb tag 0xfa) (done Six) _ _ (omega arith, omega arith)
-    (ends-cond (eqb tag 0xfb) white _ _ (whole-looser white 13 18 0 18 (omega arith) (omega arith) whole-white)
-    (ends-cond (eqb tag 0xfc) (string tag) _ _ (thirteen (string tag) (whole-string tag))
-    (ends-cond (eqb tag 0xfd) range _ _ (thirteen range whole-range)
-    (ends-cond (eqb tag 0xfe) (string tag) _ _ (thirteen (string tag) (whole-string tag))
-    (ends-cond (eqb tag 0xff) (string tag) (raw tag) _ (thirteen (string tag) (whole-string tag)) (thirteen (raw tag) (whole-raw tag))))))))
+whole-tagged tag = whole-by-tag tag (tagOf tag)
 
 pub whole-descriptor : Whole 2 20 descriptor
 unfolding descriptor

@@ -12,6 +12,7 @@ use steps::Refusal;
 use steps::Span;
 use steps::TwoRead;
 use steps::WordRead;
+use tags::Tag;
 ghost use mathlib.Core.Path.{_≡_};
 ghost use Rattle.steps.specs.Steps.{run};
 ghost use Rattle.crate_text.specs.Answers.{ofPad};
@@ -335,15 +336,15 @@ fn take_raw(c: Cursor, s: &[u8], tag: u8) -> SlotRead
 fn take_tagged(c: Cursor, s: &[u8], tag: u8) -> SlotRead
     ensures { λ r. ⌜ ofSlot r ≡ run (tagged tag) (now (s .entry)) (c .at) ⌝ }
 {
-    match tag {
-        0x10 => SlotRead::Got(Slot::Nothing, c),
-        0xfa => SlotRead::Got(Slot::Six, c),
-        0xfb => take_white(c, s),
-        0xfc => take_string(c, s, tag),
-        0xfd => take_range(c, s),
-        0xfe => take_string(c, s, tag),
-        0xff => take_string(c, s, tag),
-        _ => take_raw(c, s, tag),
+    match tags::tag_of(tag) {
+        Tag::Dummy => SlotRead::Got(Slot::Nothing, c),
+        Tag::Pairs => SlotRead::Got(Slot::Six, c),
+        Tag::Points => take_white(c, s),
+        Tag::Name => take_string(c, s, tag),
+        Tag::Range => take_range(c, s),
+        Tag::Text => take_string(c, s, tag),
+        Tag::Serial => take_string(c, s, tag),
+        Tag::Raw => take_raw(c, s, tag),
     }
 }
 

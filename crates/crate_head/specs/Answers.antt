@@ -6,7 +6,7 @@ use Rattle.steps.specs.One.{OneAnswer, one-answer}
 use Rattle.crate_record.specs.declared.ManufacturerID.{ManufacturerID}
 use Rattle.crate_record.specs.declared.ManufactureDate.{ManufactureDate}
 use Rattle.crate_record.specs.declared.ProductInformation.{ProductInformation}
-use Rattle.crate_record.specs.declared.Version.{Version}
+use Rattle.shared_record.specs.declared.Version.{Version}
 use Rattle.crate_record.specs.declared.VideoInput.{VideoInput}
 use Rattle.crate_record.specs.declared.DPMSFeatures.{DPMSFeatures}
 use Rattle.crate_record.specs.declared.DisplayParameters.{DisplayParameters}

@@ -9,7 +9,7 @@ use Rattle.crate_record.specs.Single.{whole, gammaOf, coordinate, levelOf}
 use Rattle.crate_record.specs.declared.ManufacturerID.{ManufacturerID}
 use Rattle.crate_record.specs.declared.ManufactureDate.{ManufactureDate}
 use Rattle.crate_record.specs.declared.ProductInformation.{ProductInformation}
-use Rattle.crate_record.specs.declared.Version.{Version}
+use Rattle.shared_record.specs.declared.Version.{Version}
 use Rattle.crate_record.specs.declared.VideoInput.{VideoInput}
 use Rattle.crate_record.specs.declared.VideoInput.the-variants.{Analog, Digital}
 use Rattle.crate_record.specs.declared.MaxSize.{MaxSize}

@@ -5,7 +5,7 @@ use Rattle.steps.specs.Steps.{Steps, done, _>>=_, _>>_, Outcome, run}
 use Rattle.steps.specs.Leaves.{byte}
 use Rattle.crate_record.specs.Lists.{noStandard}
 use Rattle.crate_record.specs.declared.EDID.{EDID}
-use Rattle.crate_record.specs.declared.EstablishedTimings.{EstablishedTimings}
+use Rattle.shared_record.specs.declared.EstablishedTimings.{EstablishedTimings}
 use Rattle.crate_head.specs.Head.{front}
 use Rattle.crate_head.specs.declared.Front.{Front}
 use Rattle.crate_timings.specs.Established.{established}

@@ -11,7 +11,7 @@ use Rattle.crate_record.specs.declared.MonitorDescriptor.{MonitorDescrip
 use Rattle.crate_record.specs.declared.MonitorDescriptors.{MonitorDescriptors}
 use Rattle.crate_record.specs.declared.DetailedTiming.{DetailedTiming}
 use Rattle.crate_record.specs.declared.DetailedTimings.{DetailedTimings}
-use Rattle.crate_record.specs.declared.EstablishedTimings.{EstablishedTimings}
+use Rattle.shared_record.specs.declared.EstablishedTimings.{EstablishedTimings}
 
 unfoldable pub noFlags : EstablishedTimings
 noFlags = record { items = replicate 17 0; len = 0 }

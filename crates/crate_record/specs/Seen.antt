@@ -5,7 +5,7 @@ use mathlib.Core.List.{List}
 use Prim.Native.Nat.{ℕ}
 use lib.ListN.{take}
 use Rattle.crate_record.specs.declared.ProductInformation.{ProductInformation}
-use Rattle.crate_record.specs.declared.Version.{Version}
+use Rattle.shared_record.specs.declared.Version.{Version}
 use Rattle.crate_record.specs.declared.DisplayParameters.{DisplayParameters}
 use Rattle.crate_record.specs.declared.Chromaticities.{Chromaticities}
 use Rattle.crate_record.specs.declared.WhitePoint.{WhitePoint}

@@ -1,5 +1,8 @@
 // The crate reading's record, with the source's names: every type of it, one filler for each list, and its f32 numbers.
 // A field that a definition names has no `_` in its name.
+use shared_record::EstablishedTimings;
+use shared_record::SupportedSync;
+use shared_record::Version;
 use steps::End;
 use steps::Span;
 use timing::Across;
@@ -29,21 +32,9 @@ pub struct ProductInformation {
     pub date: ManufactureDate,
 }
 
-pub struct Version {
-    pub version: u8,
-    pub revision: u8,
-}
-
 pub struct SignalLevel {
     pub high: f32,
     pub low: f32,
-}
-
-pub struct SupportedSync {
-    pub serrated: bool,
-    pub green: bool,
-    pub composite: bool,
-    pub separate: bool,
 }
 
 pub enum VideoInput {
@@ -125,12 +116,6 @@ pub struct WhitePoints {
 pub struct ColorCharacteristics {
     pub basic: Chromaticities,
     pub points: WhitePoints,
-}
-
-// The flags that are set, by their numbers from 0 to 16.
-pub struct EstablishedTimings {
-    pub items: [u8; 17],
-    pub len: usize,
 }
 
 // 8 bytes with no padding, so `rate` is no u8: a list of them is cleared and copied in wide moves.

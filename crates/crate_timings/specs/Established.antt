@@ -6,7 +6,7 @@ use Rattle.bits.specs.Fields.{bit}
 use Rattle.steps.specs.Steps.{Steps, done, _>>=_, _>>_}
 use Rattle.steps.specs.Leaves.{byte, word}
 use Rattle.crate_record.specs.Lists.{noFlags, pushFlag}
-use Rattle.crate_record.specs.declared.EstablishedTimings.{EstablishedTimings}
+use Rattle.shared_record.specs.declared.EstablishedTimings.{EstablishedTimings}
 
 -- the list in an array, with how many are listed
 abbrev pub flagsIn : List ℕ → ℕ → EstablishedTimings

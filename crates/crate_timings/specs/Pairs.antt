@@ -12,13 +12,13 @@ use Rattle.crate_record.specs.declared.StandardTimings.{StandardTimings}
 use Rattle.crate_timings.specs.declared.Pair.{Pair}
 use Rattle.crate_timings.specs.declared.Pair.the-variants.{Skipped, Listed}
 
-unfoldable pub standardOf : ℕ → ℕ → StandardTiming
-standardOf low high =
+unfoldable pub standardTimingOf : ℕ → ℕ → StandardTiming
+standardTimingOf low high =
     record { ratio = ratioOf (digits high 6 2); width = (low + 31) * 8; rate = digits high 0 6 + 60 }
 
 -- 01 01 is skipped
 unfoldable pub pairOf : ℕ → ℕ → Pair
-pairOf low high = cond (eqb low 1 && eqb high 1) Skipped (Listed (standardOf low high))
+pairOf low high = cond (eqb low 1 && eqb high 1) Skipped (Listed (standardTimingOf low high))
 
 unfoldable pub pair : Steps Pair
 pair = do

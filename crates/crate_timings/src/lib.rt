@@ -1,7 +1,7 @@
 // The established flags and the standard timings: fixed lists with a length.
-use crate_record::EstablishedTimings;
 use crate_record::StandardTiming;
 use crate_record::StandardTimings;
+use shared_record::EstablishedTimings;
 use steps::ByteRead;
 use steps::Cursor;
 use steps::End;
@@ -13,7 +13,7 @@ ghost use Rattle.steps.specs.Steps.{run};
 ghost use Rattle.steps.specs.Leaves.{Beside};
 ghost use Rattle.crate_record.specs.Lists.{noFlags, noStandard};
 ghost use Rattle.crate_timings.specs.Established.{flagsIn, flag, establishedOf, established};
-ghost use Rattle.crate_timings.specs.Pairs.{standardOf, pairOf, pair, pairs};
+ghost use Rattle.crate_timings.specs.Pairs.{standardTimingOf, pairOf, pair, pairs};
 ghost use Rattle.crate_timings.specs.Answers.{ofPair};
 
 // The list, and beside it how its reading ended; empty where it was refused.
@@ -106,8 +106,8 @@ pub fn take_established(c: Cursor, s: &[u8]) -> EstablishedRead
     }
 }
 
-fn standard_of(low: u8, high: u8) -> StandardTiming
-    ensures { λ r. ⌜ r ≡ standardOf low high ⌝ }
+fn standard_timing_of(low: u8, high: u8) -> StandardTiming
+    ensures { λ r. ⌜ r ≡ standardTimingOf low high ⌝ }
 {
     StandardTiming {
         ratio: crate_record::ratio_of(bits::digits(high, 6, 2)),
@@ -122,7 +122,7 @@ fn pair_of(low: u8, high: u8) -> Pair
     if low == 1 && high == 1 {
         Pair::Skipped
     } else {
-        Pair::Listed(standard_of(low, high))
+        Pair::Listed(standard_timing_of(low, high))
     }
 }
 

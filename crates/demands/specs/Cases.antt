@@ -2,9 +2,9 @@
 use Prim.Native.Nat.{ℕ}
 use mathlib.Core.Path.{_≡_, refl}
 use mathlib.Core.List.{List, [], _∷_, _++_}
-use lib.ListN.{getD, take, drop, set}
+use lib.ListN.{take, drop, set}
 use lib.Ieee.{ofBits, ofInt, add, div}
-use Rattle.timing.specs.Axis.{acrossOf, downOf}
+use Rattle.timing.specs.Axis.{backPorch, acrossOf, downOf}
 use Rattle.steps.specs.Steps.{Outcome, got, refused}
 use Rattle.steps.specs.Leaves.{byte, word, long}
 use Rattle.crate_record.specs.Lists.{noFlags, pushFlag, noStandard, pushStandard, noDetailed, pushDetailed, noPoints, pushPoint, noDescriptors, pushDescriptor}
@@ -14,54 +14,36 @@ use Rattle.crate_record.specs.declared.WhitePoint.{WhitePoint}
 use Rattle.crate_record.specs.declared.WhitePoints.{WhitePoints}
 use Rattle.crate_head.specs.Head.{header, maker, date, product, version, inputOf, input, sizeOf, gammaFrom, dpmsOf, dpms, display, color, front}
 use Rattle.crate_timings.specs.Established.{flag, establishedOf, established}
-use Rattle.crate_timings.specs.Pairs.{standardOf, pairOf, pair, pairs}
+use Rattle.crate_timings.specs.Pairs.{standardTimingOf, pairOf, pair, pairs}
 use Rattle.crate_text.specs.Text.{scan, padding, skip, span, text}
 use Rattle.crate_detailed.specs.Detailed.{syncOf, fitted, axes, timingOf, timed, detailed}
 use Rattle.crate_descriptors.specs.Descriptors.{spaces, closing, pointOf, point, ended, second, points, white, stringOf, string, rawOf, raw, tagged, descriptor}
 use Rattle.crate_slots.specs.Slots.{begun, slots, descriptors}
 use Rattle.crate_reading.specs.Reading.{edidOf, reading, answer}
-use Rattle.standard_record.specs.Filler.{blank, blankDetailed}
-use Rattle.standard_record.specs.declared.Maker.{Maker}
+use Rattle.tags.specs.Tags.{tagOf}
+use Rattle.standard_record.specs.Filler.{blank}
 use Rattle.standard_record.specs.declared.StandardReading.{StandardReading}
-use Rattle.standard_parts.specs.Head.{productOf}
-use Rattle.standard_verdict.specs.Slot.{tagNumber, slotNumber}
-use Rattle.standard_verdict.specs.Verdict.{judged, numberOf, placeOf}
-use Rattle.standard_reading.specs.Slot.{timingIn}
-use Rattle.standard_reading.specs.Block.{recordOf, standardOf as blockOf}
+use Rattle.standard_timing.specs.Timing.{timingIn}
+use Rattle.standard_parts.specs.Head.{inputOf as inputBy, imageOf, gammaOf, featuresOf}
+use Rattle.standard_parts.specs.Color.{pointOf as pointBy}
+use Rattle.standard_parts.specs.Timings.{flagsOf, pairOf as pairBy}
+use Rattle.standard_parts.specs.Descriptors.{secondaryOf, closingRefusal, rangeRefusal}
+use Rattle.standard_head.specs.Head.{productIn, colorsIn}
+use Rattle.standard_verdict.specs.Verdict.{beforeSlots}
+use Rattle.standard_slots.specs.Said.{pointAt, rangeIn, said}
+use Rattle.standard_reading.specs.Slots.{judged}
+use Rattle.standard_reading.specs.Block.{recordOf, standardOf}
 use Rattle.demands.specs.Specimen.{specimen, lobby, holding, named}
-
--- of the standard reading a case looks at the refusal's number and place, the maker, and the pixels of the first timing
-pub record Shown : Type 0 where
-  pub number : ℕ
-  pub place : ℕ
-  pub maker : Maker
-  pub active : ℕ
-
-abbrev pub shown : StandardReading → Shown
-shown r =
-    record {
-      number = numberOf (r .end);
-      place = placeOf (r .end);
-      maker = r .edid .product .maker;
-      active = getD (r .edid .timings .detailed .items) 0 blankDetailed .across .active .0;
-    }
-
--- accepted, with the maker A B C
-abbrev letters : ℕ → Shown
-letters n = record { number = 0; place = 0; maker = record { 0 = 0x41; 1 = 0x42; 2 = 0x43 }; active = n }
-
--- the filler beside a number and a place
-abbrev nothing : ℕ → ℕ → Shown
-nothing n p = record { number = n; place = p; maker = record { 0 = 0; 1 = 0; 2 = 0 }; active = 0 }
+use Rattle.demands.specs.Panels.{fullBlock, rangeBlock, blankBeside, showing, specimenShows, fullShows, rangeShows}
 
 -- a block, and what one of the two readings makes of it
 pub data Case : Type 0 where
   crate-reads : List ℕ → Outcome EDID → Case
-  standard-reads : List ℕ → Shown → Case
+  standard-reads : List ℕ → StandardReading → Case
 
 abbrev pub Holds : Case → Type 0
 Holds (crate-reads s o) = answer s ≡ o
-Holds (standard-reads s v) = shown (blockOf s) ≡ v
+Holds (standard-reads s r) = standardOf s ≡ r
 
 abbrev pub Hold : List Case → Type 0
 Hold [] = Unit {0}
@@ -103,11 +85,13 @@ cases =
     crate-reads (set specimen 62 0x81) (refused 6 66) ∷
     crate-reads (set specimen 83 0x21) (refused 5 84) ∷
     crate-reads (with (white-slot []) 72 90) (refused 4 93) ∷
-    standard-reads specimen (letters 800) ∷
-    standard-reads (take 127 specimen) (nothing 7 0) ∷
-    standard-reads (set specimen 127 0xc4) (nothing 8 127) ∷
-    standard-reads (set (set specimen 56 0) 127 0xe3) (letters 768) ∷ []
+    standard-reads specimen (specimenShows 800) ∷
+    standard-reads (take 127 specimen) (blankBeside 7 0) ∷
+    standard-reads (set specimen 127 0xc4) (blankBeside 8 127) ∷
+    standard-reads (set (set specimen 56 0) 127 0xe3) (specimenShows 768) ∷
+    standard-reads fullBlock fullShows ∷
+    standard-reads rangeBlock rangeShows ∷ []
 
 pub cases-hold : Hold cases
-unfolding cases shortest longest six specimen lobby holding named byte word long header maker date product version inputOf input sizeOf gammaFrom dpmsOf dpms display color front flag establishedOf established standardOf pairOf pair pairs scan padding skip span text syncOf fitted axes timingOf timed detailed spaces closing pointOf point ended second points white stringOf string rawOf raw tagged descriptor begun slots descriptors edidOf reading blockOf judged recordOf slotNumber tagNumber timingIn productOf blank noFlags pushFlag noStandard pushStandard noDetailed pushDetailed noPoints pushPoint noDescriptors pushDescriptor acrossOf downOf ofBits ofInt add div
-cases-hold = (refl, (refl, (refl, (refl, (refl, (refl, (refl, (refl, (refl, (refl, (refl, (refl, (refl, (refl, (refl, (refl, (refl, tt)))))))))))))))))
+unfolding cases shortest longest six fullBlock rangeBlock showing specimenShows fullShows rangeShows specimen lobby holding named byte word long header maker date product version inputOf input sizeOf gammaFrom dpmsOf dpms display color front flag establishedOf established standardTimingOf pairOf pair pairs scan padding skip span text syncOf fitted axes timingOf timed detailed spaces closing pointOf point ended second points white stringOf string rawOf raw tagged descriptor begun slots descriptors edidOf reading tagOf standardOf beforeSlots judged recordOf said pointAt rangeIn timingIn productIn colorsIn inputBy imageOf gammaOf featuresOf pointBy flagsOf pairBy secondaryOf closingRefusal rangeRefusal blank noFlags pushFlag noStandard pushStandard noDetailed pushDetailed noPoints pushPoint noDescriptors pushDescriptor backPorch acrossOf downOf ofBits ofInt add div
+cases-hold = (refl, (refl, (refl, (refl, (refl, (refl, (refl, (refl, (refl, (refl, (refl, (refl, (refl, (refl, (refl, (refl, (refl, (refl, (refl, tt)))))))))))))))))))

@@ -8,7 +8,7 @@ use mathlib.Core.Bool.{Bool, true, false, cond}
 use Prim.Native.Nat.{ℕ, zero, suc, _+_, _<_, _≤_, compare·suc-suc}
 use native.Mathlib.Omega.{arith}
 use lib.Dec.{ltb, isLe}
-use lib.ListN.{set, take}
+use lib.ListN.{length, set, take}
 use borrow.Author.Tests.{lt-ltb, le-ltb}
 
 module _ {ℓ} {A : Type ℓ} where
@@ -23,6 +23,11 @@ module _ {ℓ} {A : Type ℓ} where
   count zero xs = 0
   count (suc n) [] = 0
   count (suc n) (x ∷ xs) = suc (count n xs)
+
+  pub count-at-most : (n : ℕ) (xs : List A) → count n xs ≤ length xs
+  count-at-most zero xs = omega arith
+  count-at-most (suc n) [] = omega arith
+  count-at-most (suc n) (x ∷ xs) = omega (arith, count-at-most n xs)
 
 -- the length after a push: a full list stays as it is
 abbrev pub more : ℕ → ℕ → ℕ

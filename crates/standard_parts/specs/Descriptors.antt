@@ -18,9 +18,9 @@ secondaryOf kind b12 b13 b14 b15 b16 b17 rest =
 -- ---- the number of the refusal that closing bytes give, 0 for none
 
 -- 0x0a, then spaces
-unfoldable pub closingOf : ℕ → Bool → ℕ
-closingOf b spaces = cond (eqb b 0x0a) (cond spaces 0 5) 4
+unfoldable pub closingRefusal : ℕ → Bool → ℕ
+closingRefusal b spaces = cond (eqb b 0x0a) (cond spaces 0 5) 4
 
 -- of range limits, by their kind: 0 has nothing behind byte 11, 2 has a reserved byte there
-unfoldable pub reservedOf : ℕ → ℕ → Bool → ℕ
-reservedOf kind b11 spaces = cond (eqb kind 0) (closingOf b11 spaces) (cond (eqb kind 2) (cond (eqb b11 0) 0 4) 0)
+unfoldable pub rangeRefusal : ℕ → ℕ → Bool → ℕ
+rangeRefusal kind b11 spaces = cond (eqb kind 0) (closingRefusal b11 spaces) (cond (eqb kind 2) (cond (eqb b11 0) 0 4) 0)

@@ -1,10 +1,9 @@
--- The first fields of a block: product, video input, image size, gamma, features. Bytes are named by their place in the block.
+-- The first fields of a block: maker, video input, image size, gamma, features. Bytes are named by their place in the block.
 use Prim.Native.Nat.{ℕ, _+_, _*_}
 use mathlib.Core.Bool.{cond}
 use lib.Dec.{eqb, leb}
 use Rattle.bits.specs.Fields.{digits, bit, byCode}
 use Rattle.standard_record.specs.declared.Maker.{Maker}
-use Rattle.standard_record.specs.declared.Product.{Product}
 use Rattle.standard_record.specs.declared.VideoInput.{VideoInput}
 use Rattle.standard_record.specs.declared.VideoInput.the-variants.{Analog, Digital}
 use Rattle.standard_record.specs.declared.ImageSize.{ImageSize}
@@ -25,15 +24,6 @@ makerOf b8 b9 = record {
   0 = letterOf (digits (b9 + 256 * b8) 10 5);
   1 = letterOf (digits (b9 + 256 * b8) 5 5);
   2 = letterOf (digits (b9 + 256 * b8) 0 5);
-}
-
-unfoldable pub productOf : ℕ → ℕ → ℕ → ℕ → ℕ → ℕ → ℕ → ℕ → ℕ → ℕ → Product
-productOf b8 b9 b10 b11 b12 b13 b14 b15 b16 b17 = record {
-  maker = makerOf b8 b9;
-  code = b10 + 256 * b11;
-  serial = (b12 + 256 * b13) + 65536 * (b14 + 256 * b15);
-  week = b16;
-  year = b17 + 1990;
 }
 
 unfoldable pub inputOf : ℕ → VideoInput

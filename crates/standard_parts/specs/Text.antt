@@ -14,6 +14,6 @@ abbrev pub allSpaces : List ℕ → Bool
 allSpaces [] = true
 allSpaces (b ∷ bs) = cond (eqb b 0x20) (allSpaces bs) false
 
--- what follows the 0x0a is 0x20 throughout
-abbrev pub isPadded : List ℕ → Bool
-isPadded bs = allSpaces (drop (textLength bs + 1) bs)
+-- what follows the byte at n is 0x20 throughout
+abbrev pub isPadded : List ℕ → ℕ → Bool
+isPadded bs n = allSpaces (drop (n + 1) bs)

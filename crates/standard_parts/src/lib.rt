@@ -1,37 +1,27 @@
 // What the standard reading makes of the bytes of each field, by E-EDID structure 1.3. Nothing here knows where a slot stands:
 // bytes are named by their place in the block or in their slot.
-use standard_record::Chromaticities;
+use shared_record::EstablishedTimings;
+use shared_record::SupportedSync;
 use standard_record::Chromaticity;
-use standard_record::DetailedTiming;
 use standard_record::DisplayType;
-use standard_record::EstablishedTimings;
 use standard_record::Features;
 use standard_record::Gamma;
 use standard_record::ImageSize;
-use standard_record::InputSync;
 use standard_record::Limits;
 use standard_record::Maker;
-use standard_record::Product;
 use standard_record::Ratio;
 use standard_record::SecondaryTiming;
 use standard_record::StandardTiming;
-use standard_record::Sync;
-use standard_record::SyncLine;
 use standard_record::VideoInput;
 use standard_record::WhitePoint;
 use steps::Span;
-use timing::AcrossRead;
-use timing::Border;
-use timing::DownRead;
 use timing::Size;
-use timing::StereoType;
 ghost use mathlib.Core.Path.{_≡_};
-ghost use Prim.Native.Nat.{_≤_};
-ghost use Rattle.standard_record.specs.Lists.{establishedTimings};
-ghost use Rattle.standard_parts.specs.Head.{letterOf, makerOf, productOf, inputOf, imageOf, gammaOf, typeOf, featuresOf};
-ghost use Rattle.standard_parts.specs.Color.{placeOf, colorsOf, pointOf};
-ghost use Rattle.standard_parts.specs.Timings.{flagsOf, ratioOf, pairOf, lineOf, syncBy, syncOf, timedBy};
-ghost use Rattle.standard_parts.specs.Descriptors.{limitsOf, secondaryOf, closingOf, reservedOf};
+ghost use Rattle.shared_record.specs.Established.{establishedTimings};
+ghost use Rattle.standard_parts.specs.Head.{letterOf, makerOf, inputOf, imageOf, gammaOf, typeOf, featuresOf};
+ghost use Rattle.standard_parts.specs.Color.{chromaticityOf, pointOf};
+ghost use Rattle.standard_parts.specs.Timings.{flagsOf, ratioOf, pairOf};
+ghost use Rattle.standard_parts.specs.Descriptors.{limitsOf, secondaryOf, closingRefusal, rangeRefusal};
 ghost use Rattle.standard_parts.specs.Text.{textLength, allSpaces, isPadded};
 
 // What two bytes of a standard timing say.
@@ -46,12 +36,6 @@ pub enum Point {
     Listed(WhitePoint),
 }
 
-// `Over`: sync and front porch exceed the blanking on one axis.
-pub enum Timed {
-    Is(DetailedTiming),
-    Over,
-}
-
 // ---- the head
 
 fn letter_of(code: u16) -> u8
@@ -64,7 +48,7 @@ fn letter_of(code: u16) -> u8
     }
 }
 
-fn maker_of(b8: u8, b9: u8) -> Maker
+pub fn maker_of(b8: u8, b9: u8) -> Maker
     ensures { λ r. ⌜ r ≡ makerOf b8 b9 ⌝ }
 {
     let v = bits::word(b9, b8);
@@ -73,29 +57,6 @@ fn maker_of(b8: u8, b9: u8) -> Maker
         letter_of(bits::digits16(v, 5, 5)),
         letter_of(bits::digits16(v, 0, 5)),
     )
-}
-
-pub fn product_of(
-    b8: u8,
-    b9: u8,
-    b10: u8,
-    b11: u8,
-    b12: u8,
-    b13: u8,
-    b14: u8,
-    b15: u8,
-    b16: u8,
-    b17: u8,
-) -> Product
-    ensures { λ r. ⌜ r ≡ productOf b8 b9 b10 b11 b12 b13 b14 b15 b16 b17 ⌝ }
-{
-    Product {
-        maker: maker_of(b8, b9),
-        code: bits::word(b10, b11),
-        serial: bits::long(bits::word(b12, b13), bits::word(b14, b15)),
-        week: b16,
-        year: b17 as u16 + 1990,
-    }
 }
 
 pub fn input_of(b20: u8) -> VideoInput
@@ -109,7 +70,7 @@ pub fn input_of(b20: u8) -> VideoInput
         VideoInput::Analog {
             level: bits::digits(b20, 5, 2),
             setup: bits::is_set(b20, 4),
-            sync: InputSync {
+            sync: SupportedSync {
                 serrated: bits::is_set(b20, 3),
                 green: bits::is_set(b20, 2),
                 composite: bits::is_set(b20, 1),
@@ -171,36 +132,13 @@ pub fn features_of(b24: u8) -> Features
 
 // ---- colour
 
-// The low digits of x are two of `low` from digit k + 2 up, those of y two from digit k.
-fn place_of(low: u8, k: u8, x: u8, y: u8) -> Chromaticity
-    requires { ⌜ k ≤ 4 ⌝ }
-    ensures { λ r. ⌜ r ≡ placeOf low k x y ⌝ }
+// The low digits of x and of y are the last four of `low`.
+pub fn chromaticity_of(low: u8, x: u8, y: u8) -> Chromaticity
+    ensures { λ r. ⌜ r ≡ chromaticityOf low x y ⌝ }
 {
     Chromaticity {
-        x: bits::stack(x, bits::digits(low, k + 2, 2), 2),
-        y: bits::stack(y, bits::digits(low, k, 2), 2),
-    }
-}
-
-pub fn colors_of(
-    b25: u8,
-    b26: u8,
-    b27: u8,
-    b28: u8,
-    b29: u8,
-    b30: u8,
-    b31: u8,
-    b32: u8,
-    b33: u8,
-    b34: u8,
-) -> Chromaticities
-    ensures { λ r. ⌜ r ≡ colorsOf b25 b26 b27 b28 b29 b30 b31 b32 b33 b34 ⌝ }
-{
-    Chromaticities {
-        red: place_of(b25, 4, b27, b28),
-        green: place_of(b25, 0, b29, b30),
-        blue: place_of(b26, 4, b31, b32),
-        white: place_of(b26, 0, b33, b34),
+        x: bits::stack(x, bits::digits(low, 2, 2), 2),
+        y: bits::stack(y, bits::digits(low, 0, 2), 2),
     }
 }
 
@@ -212,7 +150,7 @@ pub fn point_of(index: u8, low: u8, x: u8, y: u8, gamma: u8) -> Point
     } else {
         Point::Listed(WhitePoint {
             index,
-            place: place_of(low, 0, x, y),
+            place: chromaticity_of(low, x, y),
             gamma: gamma_of(gamma),
         })
     }
@@ -230,18 +168,14 @@ pub fn established_of(b35: u8, b36: u8, b37: u8) -> EstablishedTimings
     let mut k: u8 = 0;
     while k < 16 {
         if bits::is_set16(v, k) {
-            if len < 17 {
-                items[len] = k;
-                len += 1;
-            }
+            items[len] = k;
+            len += 1;
         }
         k += 1;
     }
     if bits::is_set(b37, 7) {
-        if len < 17 {
-            items[len] = 16;
-            len += 1;
-        }
+        items[len] = 16;
+        len += 1;
     }
     EstablishedTimings { items, len }
 }
@@ -272,7 +206,7 @@ fn ratio_of(code: u8) -> Ratio
 pub fn pair_of(low: u8, high: u8) -> Pair
     ensures { λ r. ⌜ r ≡ pairOf low high ⌝ }
 {
-    if bits::word(low, high) == 0x0101 {
+    if low == 1 && high == 1 {
         Pair::Skipped
     } else {
         Pair::Listed(StandardTiming {
@@ -281,78 +215,6 @@ pub fn pair_of(low: u8, high: u8) -> Pair
             rate: bits::digits(high, 0, 6) as u16 + 60,
         })
     }
-}
-
-fn line_of(rgb: bool) -> SyncLine
-    ensures { λ r. ⌜ r ≡ lineOf rgb ⌝ }
-{
-    if rgb { SyncLine::RGB } else { SyncLine::Green }
-}
-
-fn sync_by(code: u8, two: bool, one: bool) -> Sync
-    ensures { λ r. ⌜ r ≡ syncBy code two one ⌝ }
-{
-    let line = line_of(one);
-    let polarity = timing::polarity_of(one);
-    let vertical = timing::polarity_of(two);
-    match code {
-        0 => Sync::AnalogComposite {
-            serrated: two,
-            line,
-        },
-        1 => Sync::BipolarAnalogComposite {
-            serrated: two,
-            line,
-        },
-        2 => Sync::DigitalComposite {
-            serrated: two,
-            polarity,
-        },
-        _ => Sync::DigitalSeparate {
-            horizontal: polarity,
-            vertical,
-        },
-    }
-}
-
-pub fn sync_of(b17: u8) -> Sync
-    ensures { λ r. ⌜ r ≡ syncOf b17 ⌝ }
-{
-    sync_by(
-        bits::digits(b17, 3, 2),
-        bits::is_set(b17, 2),
-        bits::is_set(b17, 1),
-    )
-}
-
-pub fn timed_by(
-    h: AcrossRead,
-    v: DownRead,
-    clock: u32,
-    size: Size,
-    border: Border,
-    interlaced: bool,
-    stereo: StereoType,
-    sync: Sync,
-) -> Timed
-    ensures { λ r. ⌜ r ≡ timedBy h v clock size border interlaced stereo sync ⌝ }
-{
-    let AcrossRead::Fits(across) = h else {
-        return Timed::Over;
-    };
-    let DownRead::Fits(down) = v else {
-        return Timed::Over;
-    };
-    Timed::Is(DetailedTiming {
-        clock,
-        across,
-        down,
-        size,
-        border,
-        interlaced,
-        stereo,
-        sync,
-    })
 }
 
 // ---- descriptors
@@ -394,8 +256,8 @@ pub fn secondary_of(
     }
 }
 
-pub fn closing_of(b: u8, spaces: bool) -> u8
-    ensures { λ r. ⌜ r ≡ closingOf b spaces ⌝ }
+pub fn closing_refusal(b: u8, spaces: bool) -> u8
+    ensures { λ r. ⌜ r ≡ closingRefusal b spaces ⌝ }
 {
     if b == 0x0a {
         if spaces { 0 } else { 5 }
@@ -404,11 +266,11 @@ pub fn closing_of(b: u8, spaces: bool) -> u8
     }
 }
 
-pub fn reserved_of(kind: u8, b11: u8, spaces: bool) -> u8
-    ensures { λ r. ⌜ r ≡ reservedOf kind b11 spaces ⌝ }
+pub fn range_refusal(kind: u8, b11: u8, spaces: bool) -> u8
+    ensures { λ r. ⌜ r ≡ rangeRefusal kind b11 spaces ⌝ }
 {
     match kind {
-        0 => closing_of(b11, spaces),
+        0 => closing_refusal(b11, spaces),
         2 => { if b11 == 0 { 0 } else { 4 } }
         _ => 0,
     }
@@ -445,10 +307,9 @@ pub fn all_spaces(s: &[u8]) -> bool
     true
 }
 
-pub fn is_padded(s: &[u8]) -> bool
-    ensures { λ r. ⌜ r ≡ isPadded (now (s .entry)) ⌝ }
+pub fn is_padded(s: &[u8], n: usize) -> bool
+    ensures { λ r. ⌜ r ≡ isPadded (now (s .entry)) n ⌝ }
 {
-    let n = text_length(s);
     if n < s.len() {
         all_spaces(&s[n + 1..])
     } else {

@@ -2,68 +2,67 @@
 use Prim.Native.Nat.{ℕ}
 use mathlib.Core.Path.{_≡_}
 use mathlib.Core.List.{List, _++_}
+use Rattle.bits.specs.Bytes.{_!_}
 use Rattle.fixed.specs.Gather.{gather}
 use Rattle.steps.specs.One.{one-value}
+use Rattle.shared_record.specs.Established.{establishedTimings}
 use Rattle.standard_record.specs.Filler.{blank}
-use Rattle.standard_record.specs.Lists.{whitePoints, establishedTimings, standardTimings, detailedTimings, descriptors}
+use Rattle.standard_record.specs.Lists.{whitePoints, standardTimings, detailedTimings, descriptors}
 use Rattle.standard_record.specs.declared.Verdict.{Verdict}
 use Rattle.standard_record.specs.declared.Verdict.the-variants.{Accepted, Refused}
-use Rattle.standard_record.specs.declared.Product.{Product}
-use Rattle.standard_record.specs.declared.Display.{Display}
-use Rattle.standard_record.specs.declared.Chromaticities.{Chromaticities}
 use Rattle.standard_record.specs.declared.StandardRecord.{StandardRecord}
 use Rattle.standard_record.specs.declared.StandardReading.{StandardReading}
 use Rattle.standard_record.specs.declared.WhitePoint.{WhitePoint}
 use Rattle.standard_record.specs.declared.StandardTiming.{StandardTiming}
 use Rattle.standard_record.specs.declared.DetailedTiming.{DetailedTiming}
 use Rattle.standard_record.specs.declared.Held.{Held}
-use Rattle.standard_parts.specs.Head.{productOf, inputOf, imageOf, gammaOf, featuresOf}
-use Rattle.standard_parts.specs.Color.{colorsOf}
+use Rattle.standard_head.specs.Head.{productIn, displayIn, colorsIn}
 use Rattle.standard_parts.specs.Timings.{flagsOf}
-use Rattle.standard_verdict.specs.Slot.{_!_}
-use Rattle.standard_verdict.specs.Verdict.{start, slot, verdictOf}
-use Rattle.standard_reading.specs.Slot.{pairsAt, pairsIn, pointsIn, timingsIn, ofEntry, entryIn}
+use Rattle.standard_slots.specs.Said.{pairsAt, lists}
+use Rattle.standard_reading.specs.declared.SlotLists.{SlotLists}
+use Rattle.standard_reading.specs.Slots.{saidIn, verdictOf}
+
+-- ---- what the block lists
+
+abbrev pub flagsIn : List ℕ → List ℕ
+flagsIn s = flagsOf (s ! 35) (s ! 36) (s ! 37)
+
+-- those of the first n slots
+abbrev pub timingsIn : List ℕ → ℕ → List DetailedTiming
+timingsIn s n = gather (λ i. lists (saidIn s i) .timings) n
+
+-- the eight pairs first
+abbrev pub pairsIn : List ℕ → ℕ → List StandardTiming
+pairsIn s n = pairsAt s 38 8 ++ gather (λ i. lists (saidIn s i) .pairs) n
+
+abbrev pub pointsIn : List ℕ → ℕ → List WhitePoint
+pointsIn s n = gather (λ i. lists (saidIn s i) .points) n
+
+abbrev pub descriptorsIn : List ℕ → ℕ → List Held
+descriptorsIn s n = gather (λ i. lists (saidIn s i) .descriptors) n
 
 -- ---- the record
 
-abbrev pub productAt : List ℕ → Product
-productAt s = productOf (s ! 8) (s ! 9) (s ! 10) (s ! 11) (s ! 12) (s ! 13) (s ! 14) (s ! 15) (s ! 16) (s ! 17)
-
-abbrev pub displayAt : List ℕ → Display
-displayAt s = record { input = inputOf (s ! 20); size = imageOf (s ! 21) (s ! 22); gamma = gammaOf (s ! 23); features = featuresOf (s ! 24) }
-
-abbrev pub colorsAt : List ℕ → Chromaticities
-colorsAt s = colorsOf (s ! 25) (s ! 26) (s ! 27) (s ! 28) (s ! 29) (s ! 30) (s ! 31) (s ! 32) (s ! 33) (s ! 34)
-
-abbrev pub flagsAt : List ℕ → List ℕ
-flagsAt s = flagsOf (s ! 35) (s ! 36) (s ! 37)
-
--- what the first n slots list
-abbrev pub pointsOf : List ℕ → ℕ → List WhitePoint
-pointsOf s n = gather (λ i. pointsIn (slot s i)) n
-
--- the eight pairs first
-abbrev pub pairsOf : List ℕ → ℕ → List StandardTiming
-pairsOf s n = pairsAt s 38 8 ++ gather (λ i. pairsIn (slot s i)) n
-
-abbrev pub timingsOf : List ℕ → ℕ → List DetailedTiming
-timingsOf s n = gather (λ i. timingsIn (slot s i)) n
-
-abbrev pub entriesOf : List ℕ → ℕ → List Held
-entriesOf s n = gather (λ i. ofEntry (entryIn (slot s i) (start i))) n
+abbrev pub listsOf : List ℕ → SlotLists
+listsOf s = record {
+  standard = standardTimings (pairsIn s 4);
+  detailed = detailedTimings (timingsIn s 4);
+  points = whitePoints (pointsIn s 4);
+  descriptors = descriptors (descriptorsIn s 4);
+}
 
 unfoldable pub recordOf : List ℕ → StandardRecord
 recordOf s = record {
-  product = productAt s;
+  product = productIn s;
   version = record { version = s ! 18; revision = s ! 19 };
-  display = displayAt s;
-  color = record { basic = colorsAt s; points = whitePoints (pointsOf s 4) };
+  display = displayIn s;
+  color = record { basic = colorsIn s; points = listsOf s .points };
   timings = record {
-    established = establishedTimings (flagsAt s);
-    standard = standardTimings (pairsOf s 4);
-    detailed = detailedTimings (timingsOf s 4);
+    established = establishedTimings (flagsIn s);
+    standard = listsOf s .standard;
+    detailed = listsOf s .detailed;
   };
-  descriptors = descriptors (entriesOf s 4);
+  descriptors = listsOf s .descriptors;
   extensions = s ! 126;
 }
 

@@ -1,3 +1,4 @@
 -- The definition of the standard reading, and what it comes to.
-pub mod Slot
+pub mod Slots
 pub mod Block
+pub mod Room

@@ -1,11 +1,9 @@
--- The five fixed lists of the record, each made of a plain list.
-use Prim.Native.Nat.{ℕ}
+-- The fixed lists of the record, but for the established timings, each made of a plain list.
 use mathlib.Core.List.{List}
 use Rattle.fixed.specs.Fixed.{pad, count}
 use Rattle.standard_record.specs.Filler.{blankWhite, blankStandard, blankDetailed, blankHeld}
 use Rattle.standard_record.specs.declared.WhitePoint.{WhitePoint}
 use Rattle.standard_record.specs.declared.WhitePoints.{WhitePoints}
-use Rattle.standard_record.specs.declared.EstablishedTimings.{EstablishedTimings}
 use Rattle.standard_record.specs.declared.StandardTiming.{StandardTiming}
 use Rattle.standard_record.specs.declared.StandardTimings.{StandardTimings}
 use Rattle.standard_record.specs.declared.DetailedTiming.{DetailedTiming}
@@ -15,9 +13,6 @@ use Rattle.standard_record.specs.declared.Descriptors.{Descriptors}
 
 abbrev pub whitePoints : List WhitePoint → WhitePoints
 whitePoints xs = record { items = pad 6 blankWhite xs; len = count 6 xs }
-
-abbrev pub establishedTimings : List ℕ → EstablishedTimings
-establishedTimings xs = record { items = pad 17 0 xs; len = count 17 xs }
 
 abbrev pub standardTimings : List StandardTiming → StandardTimings
 standardTimings xs = record { items = pad 26 blankStandard xs; len = count 26 xs }

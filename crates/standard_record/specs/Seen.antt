@@ -5,7 +5,7 @@ use mathlib.Core.List.{List}
 use Prim.Native.Nat.{ℕ}
 use lib.ListN.{take}
 use Rattle.standard_record.specs.declared.Product.{Product}
-use Rattle.standard_record.specs.declared.Version.{Version}
+use Rattle.shared_record.specs.declared.Version.{Version}
 use Rattle.standard_record.specs.declared.Display.{Display}
 use Rattle.standard_record.specs.declared.Chromaticities.{Chromaticities}
 use Rattle.standard_record.specs.declared.WhitePoint.{WhitePoint}

@@ -1,5 +1,8 @@
 // The standard reading's record, by E-EDID structure 1.3, in whole numbers: every type of it, and one filler for each list.
 // A field that a definition names has no `_` in its name.
+use shared_record::EstablishedTimings;
+use shared_record::SupportedSync;
+use shared_record::Version;
 use steps::Refusal;
 use steps::Span;
 use timing::Across;
@@ -24,25 +27,12 @@ pub struct Product {
     pub year: u16,
 }
 
-pub struct Version {
-    pub version: u8,
-    pub revision: u8,
-}
-
-// The kinds of sync that an analog input takes.
-pub struct InputSync {
-    pub serrated: bool,
-    pub green: bool,
-    pub composite: bool,
-    pub separate: bool,
-}
-
 // `level` is the code of the signal levels: 0.700/0.300, 0.714/0.286, 1.000/0.400, 0.700/0.000 V.
 pub enum VideoInput {
     Analog {
         level: u8,
         setup: bool,
-        sync: InputSync,
+        sync: SupportedSync,
     },
     Digital {
         dfp: bool,
@@ -113,12 +103,6 @@ pub struct WhitePoints {
 pub struct Color {
     pub basic: Chromaticities,
     pub points: WhitePoints,
-}
-
-// The flags that are set, by their numbers from 0 to 16.
-pub struct EstablishedTimings {
-    pub items: [u8; 17],
-    pub len: usize,
 }
 
 // Width to height.

@@ -1,3 +1,2 @@
--- The definition of the standard reading's verdict.
-pub mod Slot
+-- What the contract of `standard_verdict` cites.
 pub mod Verdict

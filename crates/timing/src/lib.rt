@@ -1,7 +1,7 @@
 // What both readings take from the bytes of a detailed timing: axes and porches, size, border, stereo, polarity.
 // Bytes are named by their place in the 18 of a timing: b2 is the third.
 ghost use mathlib.Core.Path.{_≡_};
-ghost use Rattle.timing.specs.Axis.{acrossBy, acrossOf, downBy, downOf};
+ghost use Rattle.timing.specs.Axis.{backPorch, acrossBy, acrossOf, downBy, downOf};
 ghost use Rattle.timing.specs.Rest.{clockOf, sizeOf, borderOf, polarityOf, stereoBy, stereoOf};
 
 // A sum of pixels and lines does not compile: the two are different types.
@@ -25,6 +25,11 @@ pub struct Down {
 }
 
 // `Over`: sync and front porch exceed the blanking.
+enum BackPorch {
+    Left(u16),
+    Over,
+}
+
 pub enum AcrossRead {
     Fits(Across),
     Over,
@@ -61,40 +66,46 @@ pub enum StereoType {
     SideBySide,
 }
 
+// The same of both axes: what sync and front porch leave of the blanking.
+fn back_porch(blanking: u16, front: u16, sync: u16) -> BackPorch
+    ensures { λ r. ⌜ r ≡ backPorch blanking front sync ⌝ }
+{
+    if blanking < sync {
+        return BackPorch::Over;
+    }
+    let rest = blanking - sync;
+    if rest < front {
+        return BackPorch::Over;
+    }
+    BackPorch::Left(rest - front)
+}
+
 fn across_by(active: Pixels, blanking: Pixels, front: Pixels, sync: Pixels) -> AcrossRead
     ensures { λ r. ⌜ r ≡ acrossBy active blanking front sync ⌝ }
 {
-    if blanking.0 < sync.0 {
-        return AcrossRead::Over;
+    match back_porch(blanking.0, front.0, sync.0) {
+        BackPorch::Over => AcrossRead::Over,
+        BackPorch::Left(back) => AcrossRead::Fits(Across {
+            active,
+            front,
+            sync,
+            back: Pixels(back),
+        }),
     }
-    let rest = blanking.0 - sync.0;
-    if rest < front.0 {
-        return AcrossRead::Over;
-    }
-    AcrossRead::Fits(Across {
-        active,
-        front,
-        sync,
-        back: Pixels(rest - front.0),
-    })
 }
 
 fn down_by(active: Lines, blanking: Lines, front: Lines, sync: Lines) -> DownRead
     ensures { λ r. ⌜ r ≡ downBy active blanking front sync ⌝ }
 {
-    if blanking.0 < sync.0 {
-        return DownRead::Over;
+    match back_porch(blanking.0, front.0, sync.0) {
+        BackPorch::Over => DownRead::Over,
+        BackPorch::Left(back) => DownRead::Fits(Down {
+            active,
+            front,
+            sync,
+            back: Lines(back),
+        }),
     }
-    let rest = blanking.0 - sync.0;
-    if rest < front.0 {
-        return DownRead::Over;
-    }
-    DownRead::Fits(Down {
-        active,
-        front,
-        sync,
-        back: Lines(rest - front.0),
-    })
 }
 
 pub fn across_of(b2: u8, b3: u8, b4: u8, b8: u8, b9: u8, b11: u8) -> AcrossRead

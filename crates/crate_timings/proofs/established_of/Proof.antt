@@ -4,7 +4,7 @@ use mathlib.Core.Bool.{Bool}
 use Prim.Native.Nat.{ℕ}
 use borrow.Author.Needs.{needs}
 use Rattle.crate_record.specs.Lists.{noFlags}
-use Rattle.crate_record.specs.declared.EstablishedTimings.{EstablishedTimings}
+use Rattle.shared_record.specs.declared.EstablishedTimings.{EstablishedTimings}
 use Rattle.crate_timings.specs.Established.{flag, establishedOf}
 use Rattle.crate_timings.proofs.established_of.Statement.{statement}
 use Rattle.crate_timings.proofs.established_of.Tie as tie

@@ -23,7 +23,7 @@ returns-2 c =
     ⊎-elim (λ w. ap₂ _&&_ (eq-eqb _ _ (w .0 .taken)) (w .1 .left)) (λ w. ap (λ (t : Bool). t && eqb (a .high) 1) (ne-eqb _ _ (w .left)))
     (c .before .if1 .came)
     in
-    ap Listed (c .standard-of .ensures) ∙ sym (picked-not _ _ _ no)
+    ap Listed (c .standard-timing-of .ensures) ∙ sym (picked-not _ _ _ no)
 
 pub pair-of-spec : {M : Type 1} → statement M
 pair-of-spec = tie.close (tie.spec (λ c κs. search needs) returns returns-2)

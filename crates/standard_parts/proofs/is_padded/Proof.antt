@@ -1,4 +1,4 @@
--- `standard_parts::is_padded` meets its contract: what follows the text is the rest of the slice, or there is nothing. Assumes nothing.
+-- `standard_parts::is_padded` meets its contract: what follows n is the rest of the slice, or there is nothing. Assumes nothing.
 use Prim.Native.Nat.{_+_}
 use mathlib.Core.Path.{sym, _∙_, ap}
 use denote.Ref.{now}
@@ -11,23 +11,11 @@ use Rattle.standard_parts.proofs.is_padded.Tie as tie
 
 returns : tie.Need-returns
 returns c =
-    let b = c .before .before .before in
-    rw (← b .text-length .ensures) (c .all-spaces .ensures ∙ ap allSpaces (rest-of (now (b .before .before .args .s)) (b .text-length .result + 1)))
+    let b = c .before .before .before .before in
+    c .all-spaces .ensures ∙ ap allSpaces (rest-of (now (b .args .s)) (b .args .n + 1))
 
 returns-2 : tie.Need-returns-2
-returns-2 c =
-    let b = c .before in
-    rw (← b .text-length .ensures) (sym (spaces-end (now (b .before .before .args .s)) (b .text-length .result + 1) (omega arith)))
+returns-2 c = let b = c .before .before in sym (spaces-end (now (b .args .s)) (b .args .n + 1) (omega arith))
 
 pub is-padded-spec : {M : Type 1} → statement M
-is-padded-spec =
-    tie.close
-    (tie.spec
-    (search needs)
-    (search needs)
-    (search needs)
-    (search needs)
-    (search needs)
-    (search needs)
-    returns
-    returns-2)
+is-padded-spec = tie.close (tie.spec (search needs) (search needs) (search needs) (search needs) (search needs) returns returns-2)

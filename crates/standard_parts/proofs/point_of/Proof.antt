@@ -11,7 +11,7 @@ returns c = simp (eq-eqb _ _ (c .if1 .taken))
 
 returns-2 : tie.Need-returns-2
 unfolding pointOf
-returns-2 c = simp (ne-eqb _ _ (c .before .before .if1 .left)) (rw (c .gamma-of .ensures, c .before .place-of .ensures))
+returns-2 c = simp (ne-eqb _ _ (c .before .before .if1 .left)) (rw (c .gamma-of .ensures, c .before .chromaticity-of .ensures))
 
 pub point-of-spec : {M : Type 1} → statement M
 point-of-spec = tie.close (tie.spec (search needs) (search needs) returns returns-2)

@@ -1,25 +1,20 @@
--- `standard_reading::read_standard` meets its contract: each arm by the verdict; what is accepted has 128 bytes. Assumes nothing.
+-- `standard_reading::read_standard` meets its contract: each arm by what is judged before the slots. Assumes nothing.
 use mathlib.Core.Path.{sym, _∙_}
 use borrow.Author.Needs.{needs}
+use Rattle.standard_reading.specs.Slots.{judged}
 use Rattle.standard_reading.specs.Block.{standardOf}
-use Rattle.standard_reading.proofs.Laws.{accepted-length}
+use Rattle.standard_reading.proofs.Laws.{has-128, stays}
 use Rattle.standard_reading.proofs.read_standard.Statement.{statement}
 use Rattle.standard_reading.proofs.read_standard.Tie as tie
 
-record-of-requires : tie.Need-record-of-requires
-record-of-requires c κs = accepted-length _ (sym (c .before .before .verdict-of .ensures) ∙ c .enum-told .given .1)
+read-slots-requires : tie.Need-read-slots-requires
+read-slots-requires c κs = let e = sym (c .before .before .before-slots .ensures) ∙ c .enum-told .given .1 in (has-128 _ e, e)
 
 returns : tie.Need-returns
-unfolding standardOf
+unfolding standardOf judged
 returns c =
     let b = c .before .before in
-    rw (c .blank-record .ensures, ← b .before .before .verdict-of .ensures, b .f .given .1)
-
-returns-2 : tie.Need-returns-2
-unfolding standardOf
-returns-2 c =
-    let b = c .before in
-    rw (c .record-of .ensures, ← b .before .before .verdict-of .ensures, b .enum-told .given .1)
+    rw (c .refuse .ensures, stays _ _ 0 (sym (b .before .before .before-slots .ensures) ∙ b .f .given .1) 4)
 
 pub read-standard-spec : {M : Type 1} → statement M
 read-standard-spec =
@@ -29,6 +24,6 @@ read-standard-spec =
     (search needs)
     (search needs)
     (search needs)
-    record-of-requires
+    read-slots-requires
     returns
-    returns-2)
+    (λ c. search needs))

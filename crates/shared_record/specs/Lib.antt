@@ -1,0 +1,2 @@
+-- The list of established timings, made of a plain list.
+pub mod Established

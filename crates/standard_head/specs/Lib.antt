@@ -1,0 +1,2 @@
+-- What the contracts of `standard_head` cite.
+pub mod Head

@@ -1,0 +1,4 @@
+-- What a slot says, and what the contract of `standard_slots` cites.
+pub mod Said
+pub mod Answers
+pub mod Few

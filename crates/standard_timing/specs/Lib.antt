@@ -1,0 +1,2 @@
+-- What the contracts of `standard_timing` cite.
+pub mod Timing

@@ -1,0 +1,2 @@
+-- What the contract of `tags` cites.
+pub mod Tags
