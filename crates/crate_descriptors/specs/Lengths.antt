@@ -1,9 +1,8 @@
 -- A descriptor takes 2 to 20 bytes where it is accepted, the six pairs of an fa slot included.
 use Prim.Native.Nat.{ℕ, zero, suc, _+_, _*_, _≤_}
-use mathlib.Core.Path.{_≡_}
 use native.Mathlib.Omega.{arith}
 use lib.Dec.{eqb}
-use Rattle.steps.specs.Steps.{Steps, done, _>>=_}
+use Rattle.steps.specs.Steps.{Steps, _>>=_}
 use Rattle.steps.specs.Leaves.{byte, word}
 use Rattle.steps.specs.Answers.{Ends, ends-map, ends-then, ends-cond, Takes, no-byte, takes-then, takes-ensured, takes-looser, takes-byte, takes-word}
 use Rattle.tags.specs.Tags.{tagOf}

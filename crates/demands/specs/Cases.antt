@@ -89,9 +89,15 @@ cases =
     standard-reads (take 127 specimen) (blankBeside 7 0) ∷
     standard-reads (set specimen 127 0xc4) (blankBeside 8 127) ∷
     standard-reads (set (set specimen 56 0) 127 0xe3) (specimenShows 768) ∷
+    standard-reads (set (set specimen 0 0x01) 127 0xc2) (blankBeside 2 0) ∷
+    standard-reads (set (set specimen 18 0x02) 127 0xc2) (blankBeside 9 18) ∷
+    standard-reads (set (set (set specimen 54 0) 55 0) 127 0x72) (blankBeside 3 54) ∷
+    standard-reads (set (set specimen 75 0xfa) 127 0xc5) (blankBeside 4 72) ∷
+    standard-reads (set (set specimen 83 0x21) 127 0xc2) (blankBeside 5 72) ∷
+    standard-reads (set (set specimen 62 0x81) 127 0x6a) (blankBeside 6 54) ∷
     standard-reads fullBlock fullShows ∷
     standard-reads rangeBlock rangeShows ∷ []
 
 pub cases-hold : Hold cases
 unfolding cases shortest longest six fullBlock rangeBlock showing specimenShows fullShows rangeShows specimen lobby holding named byte word long header maker date product version inputOf input sizeOf gammaFrom dpmsOf dpms display color front flag establishedOf established standardTimingOf pairOf pair pairs scan padding skip span text syncOf fitted axes timingOf timed detailed spaces closing pointOf point ended second points white stringOf string rawOf raw tagged descriptor begun slots descriptors edidOf reading tagOf standardOf beforeSlots judged recordOf said pointAt rangeIn timingIn productIn colorsIn inputBy imageOf gammaOf featuresOf pointBy flagsOf pairBy secondaryOf closingRefusal rangeRefusal blank noFlags pushFlag noStandard pushStandard noDetailed pushDetailed noPoints pushPoint noDescriptors pushDescriptor backPorch acrossOf downOf ofBits ofInt add div
-cases-hold = (refl, (refl, (refl, (refl, (refl, (refl, (refl, (refl, (refl, (refl, (refl, (refl, (refl, (refl, (refl, (refl, (refl, (refl, (refl, tt)))))))))))))))))))
+cases-hold = (refl, (refl, (refl, (refl, (refl, (refl, (refl, (refl, (refl, (refl, (refl, (refl, (refl, (refl, (refl, (refl, (refl, (refl, (refl, (refl, (refl, (refl, (refl, (refl, (refl, tt)))))))))))))))))))))))))

@@ -1,4 +1,5 @@
--- What the standard reading makes of the specimen, and of two more blocks: one whose lists of pairs are full, and one with white points and ranges.
+-- What the standard reading makes of the specimen, and of two more blocks: one with an analog input and as many pairs as there can be, and one
+-- with a white point and ranges.
 use Prim.Native.Nat.{ℕ}
 use mathlib.Core.Bool.{true, false}
 use mathlib.Core.List.{List, [], _∷_, _++_}
@@ -7,7 +8,7 @@ use Rattle.fixed.specs.Fixed.{pad}
 use Rattle.timing.specs.Axis.{pixels, lines}
 use Rattle.timing.specs.declared.SyncPolarity.the-variants.{Positive}
 use Rattle.timing.specs.declared.StereoType.the-variants as Stereo
-use Rattle.standard_record.specs.Filler.{blank, blankWhite, blankStandard, blankDetailed}
+use Rattle.standard_record.specs.Filler.{blank, blankWhite, blankStandard, blankDetailed, blankHeld}
 use Rattle.standard_record.specs.declared.Chromaticity.{Chromaticity}
 use Rattle.standard_record.specs.declared.WhitePoint.{WhitePoint}
 use Rattle.standard_record.specs.declared.StandardTiming.{StandardTiming}
@@ -16,7 +17,7 @@ use Rattle.standard_record.specs.declared.Held.{Held}
 use Rattle.standard_record.specs.declared.Descriptor.{Descriptor}
 use Rattle.standard_record.specs.declared.Descriptor.the-variants.{Name, Range, MakerDefined}
 use Rattle.standard_record.specs.declared.SecondaryTiming.{SecondaryTiming}
-use Rattle.standard_record.specs.declared.SecondaryTiming.the-variants.{GTF, Other}
+use Rattle.standard_record.specs.declared.SecondaryTiming.the-variants.{None, GTF}
 use Rattle.standard_record.specs.declared.Sync.the-variants.{DigitalSeparate}
 use Rattle.standard_record.specs.declared.VideoInput.{VideoInput}
 use Rattle.standard_record.specs.declared.VideoInput.the-variants.{Analog, Digital}
@@ -30,7 +31,7 @@ use Rattle.demands.specs.Specimen.{specimen}
 
 -- ---- the blocks
 
--- 26 pairs: 01 00, then 02 41, 03 82, ..
+-- byte 20 makes the input analog; 26 pairs: 01 00, then 02 41, 03 82, ..
 unfoldable pub fullBlock : List ℕ
 fullBlock =
     let fa : List ℕ = 0x00 ∷ 0x00 ∷ 0x00 ∷ 0xfa ∷ 0x00 ∷ [] in
@@ -40,14 +41,14 @@ fullBlock =
     ++ fa ++ (0x0f ∷ 0x8e ∷ 0x10 ∷ 0xcf ∷ 0x11 ∷ 0x10 ∷ 0x12 ∷ 0x51 ∷ 0x13 ∷ 0x92 ∷ 0x14 ∷ 0xd3 ∷ 0x0a ∷ [])
     ++ fa ++ (0x15 ∷ 0x14 ∷ 0x16 ∷ 0x55 ∷ 0x17 ∷ 0x96 ∷ 0x18 ∷ 0xd7 ∷ 0x19 ∷ 0x18 ∷ 0x1a ∷ 0x59 ∷ 0x0a ∷ 0x00 ∷ 0x94 ∷ [])
 
--- two white points, a range with GTF, one of another kind
+-- a point of index 0 and one of index 2, a range with GTF, one without
 unfoldable pub rangeBlock : List ℕ
 rangeBlock =
     take 72 specimen ++ (
-    0x00 ∷ 0x00 ∷ 0x00 ∷ 0xfb ∷ 0x00 ∷ 0x01 ∷ 0x05 ∷ 0x50 ∷ 0x54 ∷ 0x78 ∷ 0x02 ∷ 0x0a ∷ 0x50 ∷ 0x54 ∷ 0xff ∷ 0x0a ∷ 0x20 ∷ 0x20 ∷
+    0x00 ∷ 0x00 ∷ 0x00 ∷ 0xfb ∷ 0x00 ∷ 0x00 ∷ 0x05 ∷ 0x50 ∷ 0x54 ∷ 0x78 ∷ 0x02 ∷ 0x0a ∷ 0x50 ∷ 0x54 ∷ 0xff ∷ 0x0a ∷ 0x20 ∷ 0x20 ∷
     0x00 ∷ 0x00 ∷ 0x00 ∷ 0xfd ∷ 0x00 ∷ 0x38 ∷ 0x4b ∷ 0x1e ∷ 0x53 ∷ 0x0f ∷ 0x02 ∷ 0x00 ∷ 0x28 ∷ 0x50 ∷ 0x00 ∷ 0x00 ∷ 0x80 ∷ 0x28 ∷
-    0x00 ∷ 0x00 ∷ 0x00 ∷ 0xfd ∷ 0x00 ∷ 0x38 ∷ 0x4b ∷ 0x1e ∷ 0x53 ∷ 0x0f ∷ 0x04 ∷ 0x31 ∷ 0x32 ∷ 0x33 ∷ 0x34 ∷ 0x35 ∷ 0x36 ∷ 0x37 ∷
-    0x00 ∷ 0x79 ∷ [])
+    0x00 ∷ 0x00 ∷ 0x00 ∷ 0xfd ∷ 0x00 ∷ 0x38 ∷ 0x4b ∷ 0x1e ∷ 0x53 ∷ 0x0f ∷ 0x00 ∷ 0x0a ∷ 0x20 ∷ 0x20 ∷ 0x20 ∷ 0x20 ∷ 0x20 ∷ 0x20 ∷
+    0x00 ∷ 0x20 ∷ [])
 
 -- ---- their records
 
@@ -58,9 +59,9 @@ blankBeside n at = record { edid = blank; end = refusedAt n at }
 abbrev centre : Chromaticity
 centre = record { x = 512; y = 256 }
 
--- the first timing, of so many pixels
-abbrev first : ℕ → DetailedTiming
-first active = record {
+-- the first timing, with so many active pixels
+abbrev lobbyTiming : ℕ → DetailedTiming
+lobbyTiming active = record {
   clock = 40000000;
   across = record { active = pixels active; front = pixels 40; sync = pixels 128; back = pixels 88 };
   down = record { active = lines 600; front = lines 1; sync = lines 4; back = lines 23 };
@@ -99,7 +100,7 @@ showing input active points pointed standards listed entries entered =
         timings = record {
           established = record { items = pad 17 0 (0 ∷ 11 ∷ 16 ∷ []); len = 3 };
           standard = record { items = standards; len = listed };
-          detailed = record { items = first active ∷ blankDetailed ∷ blankDetailed ∷ blankDetailed ∷ []; len = 1 };
+          detailed = record { items = lobbyTiming active ∷ blankDetailed ∷ blankDetailed ∷ blankDetailed ∷ []; len = 1 };
         };
         descriptors = record { items = entries; len = entered };
         extensions = 0;
@@ -127,8 +128,7 @@ fullShows =
     mode 304 5 4 66 ∷ mode 312 16 9 67 ∷ mode 320 16 10 68 ∷ mode 328 4 3 69 ∷ mode 336 5 4 70 ∷ mode 344 16 9 71 ∷
     mode 352 16 10 72 ∷ mode 360 4 3 73 ∷ mode 368 5 4 74 ∷ mode 376 16 9 75 ∷ mode 384 16 10 76 ∷ mode 392 4 3 77 ∷
     mode 400 5 4 78 ∷ mode 408 16 9 79 ∷ mode 416 16 10 80 ∷ mode 424 4 3 81 ∷ mode 432 5 4 82 ∷ mode 440 16 9 83 ∷
-    mode 448 16 10 84 ∷ mode 456 4 3 85 ∷ []) 26 (
-    holds (Name (record { start = 0; len = 0 })) ∷ holds (Name (record { start = 0; len = 0 })) ∷ holds (Name (record { start = 0; len = 0 })) ∷ []) 0
+    mode 448 16 10 84 ∷ mode 456 4 3 85 ∷ []) 26 (pad 3 blankHeld []) 0
 
 -- 56 to 75 Hz, 30 to 83 kHz, 150 MHz
 abbrev ranged : SecondaryTiming → Held
@@ -136,10 +136,5 @@ ranged t = holds (Range (record { vmin = 56; vmax = 75; hmin = 30000; hmax = 830
 
 unfoldable pub rangeShows : StandardReading
 rangeShows =
-    showing (Digital true) 800 (
-    pad 6 blankWhite (
-    record { index = 1; place = record { x = 321; y = 337 }; gamma = Gamma.Some 220 } ∷
-    record { index = 2; place = record { x = 322; y = 338 }; gamma = Gamma.None } ∷ [])) 2 (pad 26 blankStandard (mode 1280 5 4 60 ∷ [])) 1 (
-    ranged (GTF 80000 80 0 128 40) ∷
-    ranged (Other 4 (record { start = 119; len = 7 })) ∷
-    holds (Name (record { start = 0; len = 0 })) ∷ []) 2
+    showing (Digital true) 800 (pad 6 blankWhite (record { index = 2; place = record { x = 322; y = 338 }; gamma = Gamma.None } ∷ [])) 1
+    (pad 26 blankStandard (mode 1280 5 4 60 ∷ [])) 1 (pad 3 blankHeld (ranged (GTF 80000 80 0 128 40) ∷ ranged None ∷ [])) 2

@@ -3,6 +3,7 @@ use Prim.Native.Nat.{ℕ, _+_, _*_}
 use mathlib.Core.List.{List}
 use Rattle.bits.specs.Fields.{digits}
 use Rattle.bits.specs.Bytes.{_!_}
+use Rattle.shared_record.specs.declared.Version.{Version}
 use Rattle.standard_record.specs.declared.Product.{Product}
 use Rattle.standard_record.specs.declared.Display.{Display}
 use Rattle.standard_record.specs.declared.Chromaticity.{Chromaticity}
@@ -18,6 +19,9 @@ productIn s = record {
   week = s ! 16;
   year = s ! 17 + 1990;
 }
+
+abbrev pub versionIn : List ℕ → Version
+versionIn s = record { version = s ! 18; revision = s ! 19 }
 
 abbrev pub displayIn : List ℕ → Display
 displayIn s = record { input = inputOf (s ! 20); size = imageOf (s ! 21) (s ! 22); gamma = gammaOf (s ! 23); features = featuresOf (s ! 24) }

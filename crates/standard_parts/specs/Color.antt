@@ -4,7 +4,6 @@ use mathlib.Core.Bool.{cond}
 use lib.Dec.{eqb}
 use Rattle.bits.specs.Fields.{digits}
 use Rattle.standard_record.specs.declared.Chromaticity.{Chromaticity}
-use Rattle.standard_record.specs.declared.WhitePoint.{WhitePoint}
 use Rattle.standard_parts.specs.Head.{gammaOf}
 use Rattle.standard_parts.specs.declared.Point.{Point}
 use Rattle.standard_parts.specs.declared.Point.the-variants.{Skipped, Listed}

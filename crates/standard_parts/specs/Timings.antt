@@ -6,7 +6,6 @@ use lib.Dec.{eqb}
 use Rattle.bits.specs.Fields.{digits, bit, byCode}
 use Rattle.fixed.specs.Gather.{gather, when}
 use Rattle.standard_record.specs.declared.Ratio.{Ratio}
-use Rattle.standard_record.specs.declared.StandardTiming.{StandardTiming}
 use Rattle.standard_parts.specs.declared.Pair.{Pair}
 use Rattle.standard_parts.specs.declared.Pair.the-variants.{Skipped, Listed}
 

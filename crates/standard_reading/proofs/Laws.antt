@@ -1,6 +1,6 @@
 -- What the proof of the loop over the slots cites: a turn, a refusal, and the lists as the code holds them. Assumes nothing.
 use Prim.Native.Nat.{ℕ, zero, suc, _+_, _-_, _*_, _≤_, _<_}
-use mathlib.Core.Path.{_≡_, refl, sym, ap, subst, _∙_}
+use mathlib.Core.Path.{_≡_, refl, ap, _∙_}
 use mathlib.Core.Bool.{Bool, true, false}
 use mathlib.Core.List.{List, _++_, append-assoc}
 use native.Mathlib.Numerals.{add-one}
@@ -15,14 +15,14 @@ use Rattle.standard_record.specs.declared.WhitePoint.{WhitePoint}
 use Rattle.standard_record.specs.declared.StandardTiming.{StandardTiming}
 use Rattle.standard_record.specs.declared.DetailedTiming.{DetailedTiming}
 use Rattle.standard_record.specs.declared.Held.{Held}
-use Rattle.standard_record.specs.declared.Verdict.{Verdict}
 use Rattle.standard_record.specs.declared.Verdict.the-variants.{Accepted, Refused}
 use Rattle.standard_slots.specs.Said.{Said, refusal, pairsAt, lists}
 use Rattle.standard_slots.specs.Few.{pairs-at-most}
 use Rattle.standard_reading.specs.declared.SlotLists.{SlotLists}
 use Rattle.standard_verdict.specs.Verdict.{refusedAt, _then_, beforeSlots}
-use Rattle.standard_reading.specs.Slots.{start, saidIn, verdictIn, judged}
-use Rattle.standard_reading.specs.Block.{timingsIn, pairsIn, pointsIn, descriptorsIn, listsOf}
+use Rattle.standard_reading.specs.Slots.{start, saidIn, judge, judged}
+use Rattle.standard_reading.specs.Block.{timingsOf, pairsOf, pointsOf, descriptorsOf}
+use Rattle.standard_reading.specs.Lists.{slotListsOf}
 use Rattle.standard_reading.specs.Room.{timings-room, pairs-room, points-room, descriptors-room}
 
 -- what is not refused before the slots has 128 bytes
@@ -38,7 +38,7 @@ has-128 s e = go (eqb (length s) 128) refl
 pub stays : (s : List ℕ) (f : Refusal) (n : ℕ) → judged s n ≡ Refused f → (k : ℕ) → judged s (k + n) ≡ Refused f
 unfolding judged
 stays s f n e zero = let z : 0 + n ≡ n = omega arith in rw z e
-stays s f n e (suc k) = let z : suc k + n ≡ suc (k + n) = omega arith in rw z (ap (λ v. v then verdictIn (saidIn s (k + n)) (start (k + n))) (stays s f n e k))
+stays s f n e (suc k) = let z : suc k + n ≡ suc (k + n) = omega arith in rw z (ap (λ v. v then judge (saidIn s (k + n)) (start (k + n))) (stays s f n e k))
 
 -- a slot that is refused decides
 pub decides : (s : List ℕ) (i n : ℕ) → judged s i ≡ Accepted → saidIn s i ≡ refusal n → i < 4 → judged s 4 ≡ refusedAt n (start i)
@@ -48,24 +48,24 @@ decides s i n p e h =
     rw z at (stays s (record { number = n; at = start i }) (suc i) (rw (p, e)) (3 - i))
 
 -- the arrays and counts hold what the first i slots list, none of which is refused
-pub record Listed (s : List ℕ) (i : ℕ) (standards : List StandardTiming) (listed : ℕ) (timings : List DetailedTiming) (timed : ℕ)
+pub record Gathered (s : List ℕ) (i : ℕ) (standards : List StandardTiming) (listed : ℕ) (timings : List DetailedTiming) (timed : ℕ)
     (points : List WhitePoint) (pointed : ℕ) (entries : List Held) (entered : ℕ) : Type 0 where
   pub passed : judged s i ≡ Accepted
-  pub pairs : Holds 26 blankStandard (pairsIn s i) standards listed
-  pub detailed : Holds 4 blankDetailed (timingsIn s i) timings timed
-  pub white : Holds 6 blankWhite (pointsIn s i) points pointed
-  pub described : Holds 3 blankHeld (descriptorsIn s i) entries entered
+  pub pairs : Holds 26 blankStandard (pairsOf s i) standards listed
+  pub detailed : Holds 4 blankDetailed (timingsOf s i) timings timed
+  pub white : Holds 6 blankWhite (pointsOf s i) points pointed
+  pub described : Holds 3 blankHeld (descriptorsOf s i) entries entered
 
 -- so many there are at the most
-pub record Room (i listed timed pointed entered : ℕ) : Type 0 where
+pub record Bounds (i listed timed pointed entered : ℕ) : Type 0 where
   pub pairs : listed ≤ 8 + (i - 1) * 6
   pub detailed : timed ≤ i
   pub white : pointed ≤ (i - 1) * 2
   pub described : entered ≤ i - 1
 
-module _ {s : List ℕ} {i : ℕ} {st : List StandardTiming} {ns : ℕ} {dt : List DetailedTiming} {nd : ℕ} {wp : List WhitePoint} {np : ℕ} {ds : List Held} {nh : ℕ} (h : Listed s i st ns dt nd wp np ds nh) where
-  pub room : Room i ns nd np nh
-  room =
+module _ {s : List ℕ} {i : ℕ} {st : List StandardTiming} {ns : ℕ} {dt : List DetailedTiming} {nd : ℕ} {wp : List WhitePoint} {np : ℕ} {ds : List Held} {nh : ℕ} (h : Gathered s i st ns dt nd wp np ds nh) where
+  pub bounds : Bounds i ns nd np nh
+  bounds =
       record {
         pairs = omega (arith, held-at-most (h .pairs), pairs-room s i);
         detailed = omega (arith, held-at-most (h .detailed), timings-room s i);
@@ -75,14 +75,14 @@ module _ {s : List ℕ} {i : ℕ} {st : List StandardTiming} {ns : ℕ} {dt : Li
 
   -- one slot more, that says x
   pub one-more : {x : Said} {st′ : List StandardTiming} {ns′ : ℕ} {dt′ : List DetailedTiming} {nd′ : ℕ} {wp′ : List WhitePoint} {np′ : ℕ} {ds′ : List Held} {nh′ : ℕ}
-      → saidIn s i ≡ x → verdictIn x (start i) ≡ Accepted
-      → Holds 26 blankStandard (pairsIn s i ++ lists x .pairs) st′ ns′ → Holds 4 blankDetailed (timingsIn s i ++ lists x .timings) dt′ nd′
-      → Holds 6 blankWhite (pointsIn s i ++ lists x .points) wp′ np′ → Holds 3 blankHeld (descriptorsIn s i ++ lists x .descriptors) ds′ nh′
-      → Listed s (i + 1) st′ ns′ dt′ nd′ wp′ np′ ds′ nh′
+      → saidIn s i ≡ x → judge x (start i) ≡ Accepted
+      → Holds 26 blankStandard (pairsOf s i ++ lists x .pairs) st′ ns′ → Holds 4 blankDetailed (timingsOf s i ++ lists x .timings) dt′ nd′
+      → Holds 6 blankWhite (pointsOf s i ++ lists x .points) wp′ np′ → Holds 3 blankHeld (descriptorsOf s i ++ lists x .descriptors) ds′ nh′
+      → Gathered s (i + 1) st′ ns′ dt′ nd′ wp′ np′ ds′ nh′
   unfolding judged
   one-more e v a b c d =
       record {
-        passed = rw add-one (ap (λ w. w then verdictIn (saidIn s i) (start i)) (h .passed) ∙ ap (λ y. verdictIn y (start i)) e ∙ v);
+        passed = rw add-one (ap (λ w. w then judge (saidIn s i) (start i)) (h .passed) ∙ ap (λ y. judge y (start i)) e ∙ v);
         pairs = rw (gather-more, ← append-assoc, e) a;
         detailed = rw (gather-more, e) b;
         white = rw (gather-more, e) c;
@@ -90,19 +90,19 @@ module _ {s : List ℕ} {i : ℕ} {st : List StandardTiming} {ns : ℕ} {dt : Li
       }
 
 -- pairs behind those of the first i slots
-pub pairs-so-far : (s t : List ℕ) (i k : ℕ) {st : List StandardTiming} {ns : ℕ} → Holds 26 blankStandard (pairsIn s i ++ pairsAt t 5 k) st ns
+pub pairs-so-far : (s t : List ℕ) (i k : ℕ) {st : List StandardTiming} {ns : ℕ} → Holds 26 blankStandard (pairsOf s i ++ pairsAt t 5 k) st ns
     → ns ≤ 8 + (i - 1) * 6 + k
-pairs-so-far s t i k h = omega (arith, held-at-most h, length-append (pairsIn s i) (pairsAt t 5 k), pairs-room s i, pairs-at-most t 5 k)
+pairs-so-far s t i k h = omega (arith, held-at-most h, length-append (pairsOf s i) (pairsAt t 5 k), pairs-room s i, pairs-at-most t 5 k)
 
 -- the four slots' lists
 pub lists-are : {s : List ℕ} {st : List StandardTiming} {ns : ℕ} {dt : List DetailedTiming} {nd : ℕ} {wp : List WhitePoint} {np : ℕ} {ds : List Held} {nh : ℕ}
-    → Listed s 4 st ns dt nd wp np ds nh
+    → Gathered s 4 st ns dt nd wp np ds nh
     → _≡_ {A = SlotLists} (record {
       standard = record { items = st; len = ns };
       detailed = record { items = dt; len = nd };
       points = record { items = wp; len = np };
       descriptors = record { items = ds; len = nh };
-    }) (listsOf s)
+    }) (slotListsOf s)
 lists-are h =
     λ j. record {
       standard = record { items = h .pairs .are j; len = h .pairs .many j };

@@ -16,10 +16,9 @@ use Rattle.standard_record.specs.declared.WhitePoint.{WhitePoint}
 use Rattle.standard_record.specs.declared.StandardTiming.{StandardTiming}
 use Rattle.standard_record.specs.declared.DetailedTiming.{DetailedTiming}
 use Rattle.standard_record.specs.declared.Held.{Held}
-use Rattle.standard_head.specs.Head.{productIn, displayIn, colorsIn}
+use Rattle.standard_head.specs.Head.{productIn, versionIn, displayIn, colorsIn}
 use Rattle.standard_parts.specs.Timings.{flagsOf}
 use Rattle.standard_slots.specs.Said.{pairsAt, lists}
-use Rattle.standard_reading.specs.declared.SlotLists.{SlotLists}
 use Rattle.standard_reading.specs.Slots.{saidIn, verdictOf}
 
 -- ---- what the block lists
@@ -28,41 +27,33 @@ abbrev pub flagsIn : List ℕ → List ℕ
 flagsIn s = flagsOf (s ! 35) (s ! 36) (s ! 37)
 
 -- those of the first n slots
-abbrev pub timingsIn : List ℕ → ℕ → List DetailedTiming
-timingsIn s n = gather (λ i. lists (saidIn s i) .timings) n
+abbrev pub timingsOf : List ℕ → ℕ → List DetailedTiming
+timingsOf s n = gather (λ i. lists (saidIn s i) .timings) n
 
 -- the eight pairs first
-abbrev pub pairsIn : List ℕ → ℕ → List StandardTiming
-pairsIn s n = pairsAt s 38 8 ++ gather (λ i. lists (saidIn s i) .pairs) n
+abbrev pub pairsOf : List ℕ → ℕ → List StandardTiming
+pairsOf s n = pairsAt s 38 8 ++ gather (λ i. lists (saidIn s i) .pairs) n
 
-abbrev pub pointsIn : List ℕ → ℕ → List WhitePoint
-pointsIn s n = gather (λ i. lists (saidIn s i) .points) n
+abbrev pub pointsOf : List ℕ → ℕ → List WhitePoint
+pointsOf s n = gather (λ i. lists (saidIn s i) .points) n
 
-abbrev pub descriptorsIn : List ℕ → ℕ → List Held
-descriptorsIn s n = gather (λ i. lists (saidIn s i) .descriptors) n
+abbrev pub descriptorsOf : List ℕ → ℕ → List Held
+descriptorsOf s n = gather (λ i. lists (saidIn s i) .descriptors) n
 
 -- ---- the record
-
-abbrev pub listsOf : List ℕ → SlotLists
-listsOf s = record {
-  standard = standardTimings (pairsIn s 4);
-  detailed = detailedTimings (timingsIn s 4);
-  points = whitePoints (pointsIn s 4);
-  descriptors = descriptors (descriptorsIn s 4);
-}
 
 unfoldable pub recordOf : List ℕ → StandardRecord
 recordOf s = record {
   product = productIn s;
-  version = record { version = s ! 18; revision = s ! 19 };
+  version = versionIn s;
   display = displayIn s;
-  color = record { basic = colorsIn s; points = listsOf s .points };
+  color = record { basic = colorsIn s; points = whitePoints (pointsOf s 4) };
   timings = record {
     established = establishedTimings (flagsIn s);
-    standard = listsOf s .standard;
-    detailed = listsOf s .detailed;
+    standard = standardTimings (pairsOf s 4);
+    detailed = detailedTimings (timingsOf s 4);
   };
-  descriptors = listsOf s .descriptors;
+  descriptors = descriptors (descriptorsOf s 4);
   extensions = s ! 126;
 }
 
@@ -76,6 +67,6 @@ beside (Refused f) r = record { edid = blank; end = Refused f }
 unfoldable pub standardOf : List ℕ → StandardReading
 standardOf s = beside (verdictOf s) (recordOf s)
 
--- at most one value fits: each public contract of the standard reading says `r ≡ d` of a definition d
+-- at most one value fits, as of every contract `r ≡ d` of a definition d
 pub one-reading : (s : List ℕ) (r r′ : StandardReading) → r ≡ standardOf s → r′ ≡ standardOf s → r ≡ r′
 one-reading s r r′ = one-value r r′

@@ -1,4 +1,5 @@
 -- The definition of the standard reading, and what it comes to.
 pub mod Slots
 pub mod Block
+pub mod Lists
 pub mod Room

@@ -1,4 +1,5 @@
--- No list is cut: a block says no more than the record's lists hold. Only that its first slot is a timing makes this true.
+-- No list is cut: no block says more than the record's lists hold. Pairs, points and descriptors fit because the first slot lists a timing
+-- or nothing.
 use Prim.Native.Nat.{ℕ, _+_, _-_, _*_, _≤_}
 use mathlib.Core.Path.{_≡_, ap, _∙_}
 use mathlib.Core.List.{List}
@@ -13,11 +14,11 @@ use Rattle.standard_record.specs.Filler.{blankWhite, blankStandard, blankDetail
 use Rattle.standard_record.specs.declared.Verdict.the-variants.{Accepted}
 use Rattle.standard_record.specs.Seen.{Seen, seen}
 use Rattle.standard_parts.specs.Timings.{flagsOf}
-use Rattle.standard_head.specs.Head.{productIn, displayIn, colorsIn}
+use Rattle.standard_head.specs.Head.{productIn, versionIn, displayIn, colorsIn}
 use Rattle.standard_slots.specs.Said.{pairsAt, lists}
-use Rattle.standard_slots.specs.Few.{Few, few, Timed-or-none, first, pairs-at-most}
+use Rattle.standard_slots.specs.Few.{Few, few, NoneButTimings, first-slot, pairs-at-most}
 use Rattle.standard_reading.specs.Slots.{start, saidIn, verdictOf}
-use Rattle.standard_reading.specs.Block.{flagsIn, timingsIn, pairsIn, pointsIn, descriptorsIn, recordOf, beside, standardOf}
+use Rattle.standard_reading.specs.Block.{flagsIn, timingsOf, pairsOf, pointsOf, descriptorsOf, recordOf, beside, standardOf}
 
 -- ---- after n slots
 
@@ -25,13 +26,13 @@ module _ (s : List ℕ) where
   few-in : (i : ℕ) → Few (saidIn s i)
   few-in i = few i (part s (start i) 18) (start i)
 
-  first-in : Timed-or-none (saidIn s 0)
-  first-in = first (part s (start 0) 18) (start 0)
+  first-in : NoneButTimings (saidIn s 0)
+  first-in = first-slot (part s (start 0) 18) (start 0)
 
-  pub timings-room : (n : ℕ) → length (timingsIn s n) ≤ n
+  pub timings-room : (n : ℕ) → length (timingsOf s n) ≤ n
   timings-room n = omega (arith, gather-at-most (λ i. lists (saidIn s i) .timings) 1 (λ i. few-in i .timings) n)
 
-  pub pairs-room : (n : ℕ) → length (pairsIn s n) ≤ 8 + (n - 1) * 6
+  pub pairs-room : (n : ℕ) → length (pairsOf s n) ≤ 8 + (n - 1) * 6
   pairs-room n =
       omega (
         arith,
@@ -40,10 +41,10 @@ module _ (s : List ℕ) where
         gather-later (λ i. lists (saidIn s i) .pairs) 6 (first-in .pairs) (λ i. few-in i .pairs) n,
       )
 
-  pub points-room : (n : ℕ) → length (pointsIn s n) ≤ (n - 1) * 2
+  pub points-room : (n : ℕ) → length (pointsOf s n) ≤ (n - 1) * 2
   points-room n = gather-later (λ i. lists (saidIn s i) .points) 2 (first-in .points) (λ i. few-in i .points) n
 
-  pub descriptors-room : (n : ℕ) → length (descriptorsIn s n) ≤ n - 1
+  pub descriptors-room : (n : ℕ) → length (descriptorsOf s n) ≤ n - 1
   descriptors-room n = omega (arith, gather-later (λ i. lists (saidIn s i) .descriptors) 1 (first-in .descriptors) (λ i. few-in i .descriptors) n)
 
 flags-room : (b35 b36 b37 : ℕ) → length (flagsOf b35 b36 b37) ≤ 17
@@ -61,10 +62,10 @@ flags-room b35 b36 b37 =
 
 pub record Fits (s : List ℕ) : Type 0 where
   pub flags : length (flagsIn s) ≤ 17
-  pub pairs : length (pairsIn s 4) ≤ 26
-  pub points : length (pointsIn s 4) ≤ 6
-  pub timings : length (timingsIn s 4) ≤ 4
-  pub descriptors : length (descriptorsIn s 4) ≤ 3
+  pub pairs : length (pairsOf s 4) ≤ 26
+  pub points : length (pointsOf s 4) ≤ 6
+  pub timings : length (timingsOf s 4) ≤ 4
+  pub descriptors : length (descriptorsOf s 4) ≤ 3
 
 pub fits : (s : List ℕ) → Fits s
 fits s =
@@ -80,32 +81,36 @@ fits s =
 unfoldable pub plain : List ℕ → Seen
 plain s = record {
   product = productIn s;
-  version = record { version = s ! 18; revision = s ! 19 };
+  version = versionIn s;
   display = displayIn s;
   basic = colorsIn s;
-  points = pointsIn s 4;
+  points = pointsOf s 4;
   established = flagsIn s;
-  standard = pairsIn s 4;
-  detailed = timingsIn s 4;
-  descriptors = descriptorsIn s 4;
+  standard = pairsOf s 4;
+  detailed = timingsOf s 4;
+  descriptors = descriptorsOf s 4;
   extensions = s ! 126;
 }
 
--- a record shows all of it
-pub nothing-cut : (s : List ℕ) → verdictOf s ≡ Accepted → seen (standardOf s .edid) ≡ plain s
-unfolding standardOf seen recordOf plain
-nothing-cut s e =
+-- the fixed lists show all of it
+pub all-shown : (s : List ℕ) → seen (recordOf s) ≡ plain s
+unfolding seen recordOf plain
+all-shown s =
     let f = fits s in
-    ap (λ v. seen (beside v (recordOf s) .edid)) e
-    ∙ (λ i. record {
+    λ i. record {
       product = productIn s;
-      version = record { version = s ! 18; revision = s ! 19 };
+      version = versionIn s;
       display = displayIn s;
       basic = colorsIn s;
-      points = (shown-pad 6 blankWhite (pointsIn s 4) ∙ take-all 6 (pointsIn s 4) (f .points)) i;
+      points = (shown-pad 6 blankWhite (pointsOf s 4) ∙ take-all 6 (pointsOf s 4) (f .points)) i;
       established = (shown-pad 17 0 (flagsIn s) ∙ take-all 17 (flagsIn s) (f .flags)) i;
-      standard = (shown-pad 26 blankStandard (pairsIn s 4) ∙ take-all 26 (pairsIn s 4) (f .pairs)) i;
-      detailed = (shown-pad 4 blankDetailed (timingsIn s 4) ∙ take-all 4 (timingsIn s 4) (f .timings)) i;
-      descriptors = (shown-pad 3 blankHeld (descriptorsIn s 4) ∙ take-all 3 (descriptorsIn s 4) (f .descriptors)) i;
+      standard = (shown-pad 26 blankStandard (pairsOf s 4) ∙ take-all 26 (pairsOf s 4) (f .pairs)) i;
+      detailed = (shown-pad 4 blankDetailed (timingsOf s 4) ∙ take-all 4 (timingsOf s 4) (f .timings)) i;
+      descriptors = (shown-pad 3 blankHeld (descriptorsOf s 4) ∙ take-all 3 (descriptorsOf s 4) (f .descriptors)) i;
       extensions = s ! 126;
-    })
+    }
+
+-- and so does the record of every block that is accepted
+pub nothing-cut : (s : List ℕ) → verdictOf s ≡ Accepted → seen (standardOf s .edid) ≡ plain s
+unfolding standardOf
+nothing-cut s e = ap (λ v. seen (beside v (recordOf s) .edid)) e ∙ all-shown s

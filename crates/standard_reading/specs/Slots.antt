@@ -14,18 +14,18 @@ start i = 54 + 18 * i
 abbrev pub saidIn : List ℕ → ℕ → Said
 saidIn s i = said i (part s (start i) 18) (start i)
 
-abbrev pub verdictIn : Said → ℕ → Verdict
-verdictIn (refusal n) at = refusedAt n at
-verdictIn nothing at = Accepted
-verdictIn (timing d) at = Accepted
-verdictIn (pairs ps) at = Accepted
-verdictIn (points ws) at = Accepted
-verdictIn (described d) at = Accepted
+abbrev pub judge : Said → ℕ → Verdict
+judge (refusal n) at = refusedAt n at
+judge nothing at = Accepted
+judge (timing d) at = Accepted
+judge (pairs ps) at = Accepted
+judge (points ws) at = Accepted
+judge (described d) at = Accepted
 
 -- after n slots
 unfoldable pub judged : List ℕ → ℕ → Verdict
 judged s zero = beforeSlots s
-judged s (suc n) = judged s n then verdictIn (saidIn s n) (start n)
+judged s (suc n) = judged s n then judge (saidIn s n) (start n)
 
 abbrev pub verdictOf : List ℕ → Verdict
 verdictOf s = judged s 4

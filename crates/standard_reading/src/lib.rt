@@ -22,7 +22,8 @@ ghost use mathlib.Core.Path.{_≡_};
 ghost use lib.ListN.{length};
 ghost use Rattle.standard_record.specs.Filler.{blank};
 ghost use Rattle.standard_verdict.specs.Verdict.{beforeSlots};
-ghost use Rattle.standard_reading.specs.Block.{listsOf, recordOf, standardOf};
+ghost use Rattle.standard_reading.specs.Block.{recordOf, standardOf};
+ghost use Rattle.standard_reading.specs.Lists.{slotListsOf};
 
 // What the slots list, with the eight pairs before them.
 struct SlotLists {
@@ -32,10 +33,10 @@ struct SlotLists {
     descriptors: Descriptors,
 }
 
-// ---- the lists
+// ---- the answers
 
 fn record_of(s: &[u8], lists: SlotLists) -> StandardRecord
-    requires { ⌜ (length (now s) ≡ 128) × (lists ≡ listsOf (now s)) ⌝ }
+    requires { ⌜ (length (now s) ≡ 128) × (lists ≡ slotListsOf (now s)) ⌝ }
     ensures { λ r. ⌜ r ≡ recordOf (now (s .entry)) ⌝ }
 {
     let points = lists.points;
@@ -72,7 +73,10 @@ fn refuse(f: Refusal) -> StandardReading
     }
 }
 
-// The eight pairs, then slot after slot. The lists are local arrays that this function alone fills: no call takes or returns one, but for the answer.
+// ---- the slots
+
+// The eight pairs, then slot after slot. The lists are local arrays that this function alone fills: no call takes or returns one, but for the
+// answer, and so the two loops over pairs are not one function (docs/DECISIONS.md 13). The length is required to have it at hand.
 fn read_slots(s: &[u8]) -> StandardReading
     requires { ⌜ (length (now s) ≡ 128) × (beforeSlots (now s) ≡ Verdict.Accepted) ⌝ }
     ensures { λ r. ⌜ r ≡ standardOf (now (s .entry)) ⌝ }
@@ -98,7 +102,7 @@ fn read_slots(s: &[u8]) -> StandardReading
         let at = 54 + 18 * i;
         let from = at as usize;
         let t = &s[from..from + 18];
-        match standard_slots::slot_in(i, t, at) {
+        match standard_slots::said(i, t, at) {
             Slot::Refused(number) => return refuse(Refusal { number, at: from }),
             Slot::Nothing => {}
             Slot::Timing(d) => {
@@ -118,7 +122,7 @@ fn read_slots(s: &[u8]) -> StandardReading
                     k += 1;
                 }
             }
-            Slot::White(ps) => match ps {
+            Slot::Points(ps) => match ps {
                 Points::None => {}
                 Points::One(p) => {
                     points[pointed] = p;

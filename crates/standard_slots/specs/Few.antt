@@ -20,8 +20,9 @@ use Rattle.standard_parts.specs.Descriptors.{closingRefusal, rangeRefusal}
 use Rattle.standard_parts.specs.Text.{allSpaces}
 use Rattle.standard_parts.specs.declared.Pair.{Pair}
 use Rattle.standard_parts.specs.declared.Point.{Point}
-use Rattle.standard_slots.specs.Said.{Said, refusal, pairs, points, described, lists, unless, ofPair, pairAt, pairsAt, ofPoint, pointAt, textIn, paddingRefusal, textAs, rangeIn, rawOf, ofTimed, byTag, said}
+use Rattle.standard_slots.specs.Said.{Said, refusal, pairs, points, described, lists, unless, ofPair, pairAt, pairsAt, pairsIn, ofPoint, pointAt, pointsIn, textIn, paddingRefusal, textAs, rangeIn, rawOf, ofTimed, byTag, said}
 
+-- no more than this
 pub record Few (x : Said) : Type 0 where
   pub timings : length (lists x .timings) ≤ 1
   pub pairs : length (lists x .pairs) ≤ 6
@@ -30,21 +31,21 @@ pub record Few (x : Said) : Type 0 where
 
 -- ---- the parts
 
-one-pair : (p : Pair) → length (ofPair p) ≤ 1
-one-pair (Pair.Listed v) = omega arith
-one-pair Pair.Skipped = omega arith
+pair-at-most : (p : Pair) → length (ofPair p) ≤ 1
+pair-at-most (Pair.Listed v) = omega arith
+pair-at-most Pair.Skipped = omega arith
 
 -- n pairs at the most
 pub pairs-at-most : (s : List ℕ) (k n : ℕ) → length (pairsAt s k n) ≤ n
 pairs-at-most s k n =
-    omega (arith, gather-at-most (λ i. pairAt s (k + 2 * i)) 1 (λ i. one-pair (pairOf (s ! (k + 2 * i)) (s ! (k + 2 * i + 1)))) n)
+    omega (arith, gather-at-most (λ i. pairAt s (k + 2 * i)) 1 (λ i. pair-at-most (pairOf (s ! (k + 2 * i)) (s ! (k + 2 * i + 1)))) n)
 
-one-point : (p : Point) → length (ofPoint p) ≤ 1
-one-point (Point.Listed v) = omega arith
-one-point Point.Skipped = omega arith
+point-at-most : (p : Point) → length (ofPoint p) ≤ 1
+point-at-most (Point.Listed v) = omega arith
+point-at-most Point.Skipped = omega arith
 
-two-points : (p q : Point) → length (ofPoint p ++ ofPoint q) ≤ 2
-two-points p q = omega (arith, length-append (ofPoint p) (ofPoint q), one-point p, one-point q)
+points-at-most : (p q : Point) → length (ofPoint p ++ ofPoint q) ≤ 2
+points-at-most p q = omega (arith, length-append (ofPoint p) (ofPoint q), point-at-most p, point-at-most q)
 
 -- ---- the slot
 
@@ -71,11 +72,11 @@ few-text d t at = few-unless (paddingRefusal t (textIn t at .len)) (described (d
 few-by-tag : (tag : Tag) (t : List ℕ) (at : ℕ) → Few (byTag tag t at)
 few-by-tag Tag.Dummy t at = record { timings = omega arith; pairs = omega arith; points = omega arith; descriptors = omega arith }
 few-by-tag Tag.Pairs t at =
-    few-unless (closingRefusal (t ! 17) true) (pairs (pairsAt t 5 6))
+    few-unless (closingRefusal (t ! 17) true) (pairs (pairsIn t))
     (record { timings = omega arith; pairs = pairs-at-most t 5 6; points = omega arith; descriptors = omega arith })
 few-by-tag Tag.Points t at =
-    few-unless (closingRefusal (t ! 15) (allSpaces (part t 16 2))) (points (ofPoint (pointAt t 5) ++ ofPoint (pointAt t 10)))
-    (record { timings = omega arith; pairs = omega arith; points = two-points (pointAt t 5) (pointAt t 10); descriptors = omega arith })
+    few-unless (closingRefusal (t ! 15) (allSpaces (part t 16 2))) (points (pointsIn t))
+    (record { timings = omega arith; pairs = omega arith; points = points-at-most (pointAt t 5) (pointAt t 10); descriptors = omega arith })
 few-by-tag Tag.Name t at = few-text Name t at
 few-by-tag Tag.Range t at =
     few-unless (rangeRefusal (t ! 10) (t ! 11) (allSpaces (part t 12 6))) (described (rangeIn t at)) (few-described (rangeIn t at))
@@ -91,16 +92,17 @@ few i t at =
 
 -- ---- the first slot is a timing, or refused
 
-pub record Timed-or-none (x : Said) : Type 0 where
+-- timings at the most
+pub record NoneButTimings (x : Said) : Type 0 where
   pub pairs : lists x .pairs ≡ []
   pub points : lists x .points ≡ []
   pub descriptors : lists x .descriptors ≡ []
 
-pub first : (t : List ℕ) (at : ℕ) → Timed-or-none (said 0 t at)
+pub first-slot : (t : List ℕ) (at : ℕ) → NoneButTimings (said 0 t at)
 unfolding said
-first t at = go (eqb (clockIn t) 0) (timingIn t)
+first-slot t at = go (eqb (clockIn t) 0) (timingIn t)
   where
-    go : (b : Bool) (x : Timed) → Timed-or-none (cond b (refusal 3) (ofTimed x))
+    go : (b : Bool) (x : Timed) → NoneButTimings (cond b (refusal 3) (ofTimed x))
     go true x = record { pairs = refl; points = refl; descriptors = refl }
     go false (Timed.Is d) = record { pairs = refl; points = refl; descriptors = refl }
     go false Timed.Over = record { pairs = refl; points = refl; descriptors = refl }

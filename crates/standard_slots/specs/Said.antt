@@ -50,6 +50,10 @@ pairAt s k = ofPair (pairOf (s ! k) (s ! (k + 1)))
 abbrev pub pairsAt : List ℕ → ℕ → ℕ → List StandardTiming
 pairsAt s k n = gather (λ i. pairAt s (k + 2 * i)) n
 
+-- of an fa slot
+abbrev pub pairsIn : List ℕ → List StandardTiming
+pairsIn t = pairsAt t 5 6
+
 abbrev pub ofPoint : Point → List WhitePoint
 ofPoint (Point.Listed v) = v ∷ []
 ofPoint Point.Skipped = []
@@ -57,6 +61,10 @@ ofPoint Point.Skipped = []
 -- five bytes from k on
 unfoldable pub pointAt : List ℕ → ℕ → Point
 pointAt t k = pointOf (t ! k) (t ! (k + 1)) (t ! (k + 2)) (t ! (k + 3)) (t ! (k + 4))
+
+-- of an fb slot
+abbrev pub pointsIn : List ℕ → List WhitePoint
+pointsIn t = ofPoint (pointAt t 5) ++ ofPoint (pointAt t 10)
 
 abbrev pub textIn : List ℕ → ℕ → Span
 textIn t at = record { start = at + 5; len = textLength (part t 5 13) }
@@ -88,8 +96,8 @@ ofTimed Timed.Over = refusal 6
 -- one without goes by its tag
 abbrev pub byTag : Tag → List ℕ → ℕ → Said
 byTag Tag.Dummy t at = nothing
-byTag Tag.Pairs t at = unless (closingRefusal (t ! 17) true) (pairs (pairsAt t 5 6))
-byTag Tag.Points t at = unless (closingRefusal (t ! 15) (allSpaces (part t 16 2))) (points (ofPoint (pointAt t 5) ++ ofPoint (pointAt t 10)))
+byTag Tag.Pairs t at = unless (closingRefusal (t ! 17) true) (pairs (pairsIn t))
+byTag Tag.Points t at = unless (closingRefusal (t ! 15) (allSpaces (part t 16 2))) (points (pointsIn t))
 byTag Tag.Name t at = textAs Name t at
 byTag Tag.Range t at = unless (rangeRefusal (t ! 10) (t ! 11) (allSpaces (part t 12 6))) (described (rangeIn t at))
 byTag Tag.Text t at = textAs Text t at
@@ -108,6 +116,7 @@ pub record Lists : Type 0 where
   pub points : List WhitePoint
   pub descriptors : List Held
 
+-- in this order
 abbrev four : List DetailedTiming → List StandardTiming → List WhitePoint → List Held → Lists
 four ts ps ws ds = record { timings = ts; pairs = ps; points = ws; descriptors = ds }
 

@@ -1,4 +1,5 @@
-// What one slot of a block says: it is judged and listed by the same look. Past the end of t every byte is 0.
+// What one slot of a block says: it is judged and read by the same look, but for the pairs of an fa slot, which are read where they are
+// listed. Past the end of t every byte is 0.
 use standard_parts::Point;
 use standard_record::Descriptor;
 use standard_record::DetailedTiming;
@@ -7,12 +8,10 @@ use standard_timing::Timed;
 use steps::Span;
 use tags::Tag;
 ghost use mathlib.Core.Path.{_≡_};
-ghost use mathlib.Core.List.{List, _++_};
+ghost use mathlib.Core.List.{List};
 ghost use Prim.Native.Nat.{ℕ};
-ghost use Rattle.standard_slots.specs.Said.{unless, ofPoint, pointAt, textIn, paddingRefusal, rangeIn, rawOf, byTag, said};
+ghost use Rattle.standard_slots.specs.Said.{unless, pointAt, pointsIn, textIn, paddingRefusal, rangeIn, rawOf, byTag, said};
 ghost use Rattle.standard_slots.specs.Answers.{ofPoints, ofSlot};
-ghost use Rattle.tags.specs.Tags.{tagOf};
-ghost use Rattle.bits.specs.Bytes.{_!_};
 
 // The white points of an fb slot.
 pub enum Points {
@@ -21,13 +20,13 @@ pub enum Points {
     Two(WhitePoint, WhitePoint),
 }
 
-// An fa slot says `Pairs`: an enum holds no list, so they are read where they are listed.
+// An fa slot says `Pairs` alone: an enum holds no list of six.
 pub enum Slot {
     Refused(u8),
     Nothing,
     Timing(DetailedTiming),
     Pairs,
-    White(Points),
+    Points(Points),
     Described(Descriptor),
 }
 
@@ -47,7 +46,7 @@ fn point_at(t: &[u8], k: u8) -> Point
 }
 
 fn points_in(t: &[u8]) -> Points
-    ensures { λ r. ⌜ ofPoints r ≡ ofPoint (pointAt (now (t .entry)) 5) ++ ofPoint (pointAt (now (t .entry)) 10) ⌝ }
+    ensures { λ r. ⌜ ofPoints r ≡ pointsIn (now (t .entry)) ⌝ }
 {
     let second = point_at(t, 10);
     match point_at(t, 5) {
@@ -145,7 +144,7 @@ fn by_tag(tag: Tag, t: &[u8], at: u8) -> Slot
                 bits::byte_at(t, 15),
                 standard_parts::all_spaces(bits::part(t, 16, 2)),
             ),
-            Slot::White(points_in(t)),
+            Slot::Points(points_in(t)),
         ),
         Tag::Name => {
             let text = text_in(t, at);
@@ -186,7 +185,7 @@ fn by_tag(tag: Tag, t: &[u8], at: u8) -> Slot
     }
 }
 
-pub fn slot_in(i: u8, t: &[u8], at: u8) -> Slot
+pub fn said(i: u8, t: &[u8], at: u8) -> Slot
     ensures { λ r. ⌜ ofSlot (now (t .entry)) r ≡ said i (now (t .entry)) at ⌝ }
 {
     if standard_timing::clock_in(t) == 0 {

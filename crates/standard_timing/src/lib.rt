@@ -1,5 +1,5 @@
-// The timing rule of the standard reading: 18 bytes to a detailed timing, or to none where a porch would go below zero. It knows no slot.
-// Past the end of t every byte is 0.
+// The timing rule of the standard reading: 18 bytes to a detailed timing, or to `Over`, which is refusal 6. It knows no slot, and a clock
+// of 0, by which a caller tells that there is no timing, is a number to it as any other. Past the end of t every byte is 0.
 use standard_record::DetailedTiming;
 use standard_record::Sync;
 use standard_record::SyncLine;

@@ -1,4 +1,4 @@
--- A verdict: the first refusal in order, or none; and what is judged before the slots.
+-- A verdict is the first refusal in order, or none; here is what is judged before the slots, in standard_reading/specs/Slots the whole.
 use Prim.Native.Nat.{ℕ}
 use mathlib.Core.Bool.{Bool, true, false, _&&_}
 use mathlib.Core.List.{List}

@@ -66,7 +66,7 @@ pub enum StereoType {
     SideBySide,
 }
 
-// The same of both axes: what sync and front porch leave of the blanking.
+// One rule for both axes: what sync and front porch leave of the blanking.
 fn back_porch(blanking: u16, front: u16, sync: u16) -> BackPorch
     ensures { λ r. ⌜ r ≡ backPorch blanking front sync ⌝ }
 {

@@ -1,5 +1,5 @@
 -- `standard_reading::read_slots` meets its contract. The invariants: the arrays and their counts hold the pairs passed, and what the slots passed list. Assumes nothing.
-use Prim.Native.Nat.{ℕ, _+_, _-_, _*_, _≤_}
+use Prim.Native.Nat.{_+_, _-_, _*_, _≤_}
 use mathlib.Core.Path.{_≡_, refl, sym, ap, _∙_}
 use mathlib.Core.List.{_++_, append-assoc}
 use mathlib.Core.Logic.{⊎-elim}
@@ -16,8 +16,8 @@ use Rattle.standard_slots.specs.Few.{pairs-at-most}
 use Rattle.standard_slots.specs.Answers.{ofSlot}
 use Rattle.standard_slots.specs.declared.Slot.{Slot}
 use Rattle.standard_reading.specs.Slots.{start, saidIn, judged}
-use Rattle.standard_reading.specs.Block.{pairsIn, standardOf}
-use Rattle.standard_reading.proofs.Laws.{decides, Listed, Room, room, one-more, pairs-so-far, lists-are}
+use Rattle.standard_reading.specs.Block.{pairsOf, standardOf}
+use Rattle.standard_reading.proofs.Laws.{decides, Gathered, Bounds, bounds, one-more, pairs-so-far, lists-are}
 use Rattle.standard_reading.proofs.read_slots.Statement.{statement}
 use Rattle.standard_reading.proofs.read_slots.Tie as tie
 
@@ -31,7 +31,7 @@ abbrev μ-loop : tie.MeasureT-loop
 -- the pairs of an fa slot, behind those that are listed before
 abbrev Inv-loop3 : tie.InvT-loop3
 Inv-loop3 s standards₀ listed₀ k timings timed points pointed entries entered i at from t k₀ standards listed k' =
-    (k' ≤ 6) × (listed ≤ 8 + (i - 1) * 6 + k') × Holds 26 blankStandard (pairsIn s i ++ pairsAt t 5 k') standards listed
+    (k' ≤ 6) × (listed ≤ 8 + (i - 1) * 6 + k') × Holds 26 blankStandard (pairsOf s i ++ pairsAt t 5 k') standards listed
 
 abbrev μ-loop3 : tie.MeasureT-loop3
 μ-loop3 s standards₀ listed₀ k timings timed points pointed entries entered i at from t k₀ standards listed k' = 6 - k'
@@ -39,7 +39,7 @@ abbrev μ-loop3 : tie.MeasureT-loop3
 -- the slots
 abbrev Inv-loop2 : tie.InvT-loop2
 Inv-loop2 s standards₀ listed₀ k timings₀ timed₀ points₀ pointed₀ entries₀ entered₀ i₀ standards listed timings timed points pointed entries entered i =
-    (i ≤ 4) × Room i listed timed pointed entered × Listed s i standards listed timings timed points pointed entries entered
+    (i ≤ 4) × Bounds i listed timed pointed entered × Gathered s i standards listed timings timed points pointed entries entered
 
 abbrev μ-loop2 : tie.MeasureT-loop2
 μ-loop2 s standards₀ listed₀ k timings₀ timed₀ points₀ pointed₀ entries₀ entered₀ i₀ standards listed timings timed points pointed entries entered i = 4 - i
@@ -65,7 +65,7 @@ unfolding judged
 loop2-holds c =
     let l = c .before in
     let all : l .loop .k ≡ 8 = omega arith in
-    let h : Listed (now (l .before .before .args .s)) 0 (l .loop .standards) (l .loop .listed) _ 0 _ 0 _ 0 =
+    let h : Gathered (now (l .before .before .args .s)) 0 (l .loop .standards) (l .loop .listed) _ 0 _ 0 _ 0 =
     record {
       passed = l .before .before .pre .1;
       pairs = kept (rw all at (l .loop .inv .2)) refl refl refl;
@@ -73,14 +73,14 @@ loop2-holds c =
       white = record { are = refl; many = refl };
       described = record { are = refl; many = refl };
     }
-    in (search needs, room h, h)
+    in (search needs, bounds h, h)
 
 -- what the code makes of a slot is what the slot says
-says : (c : tie.After-slot-in Inv-loop μ-loop Inv-loop3 μ-loop3 Inv-loop2 μ-loop2)
+says : (c : tie.After-said Inv-loop μ-loop Inv-loop3 μ-loop3 Inv-loop2 μ-loop2)
     → let l : tie.At-loop2 Inv-loop μ-loop Inv-loop3 μ-loop3 Inv-loop2 μ-loop2 = c .before .before .before in
     let s = now (l .before .before .before .before .args .s) in
-    saidIn s (l .loop2 .i) ≡ ofSlot (part s (start (l .loop2 .i)) 18) (c .slot-in .result)
-says c = sym (rw add-sub-cancel-left at (c .slot-in .ensures))
+    saidIn s (l .loop2 .i) ≡ ofSlot (part s (start (l .loop2 .i)) 18) (c .said .result)
+says c = sym (rw add-sub-cancel-left at (c .said .ensures))
 
 returns : tie.Need-returns Inv-loop μ-loop Inv-loop3 μ-loop3 Inv-loop2 μ-loop2
 unfolding standardOf
@@ -90,7 +90,7 @@ returns c =
     let l = x .before .before in
     rw (
       c .refuse .ensures,
-      decides _ _ _ (l .before .loop2 .inv .2 .passed) (says x ∙ ap (ofSlot _) (n .number .given .1)) (l .loop2-test .taken),
+      decides _ _ _ (l .before .loop2 .inv .2 .passed) (says x ∙ ap (ofSlot _) (n .number .given .1)) (omega (arith, l .loop2-test .taken)),
     )
 
 loop3-holds : tie.Need-loop3-holds Inv-loop μ-loop Inv-loop3 μ-loop3 Inv-loop2 μ-loop2
@@ -105,7 +105,7 @@ loop3-again c =
     let i = o .loop2 .i in
     let t = take (start i + 18 - start i) (drop (start i) s) in
     let told = sym (p .pair-of2 .ensures) in
-    let h : Holds 26 blankStandard (pairsIn s i ++ pairsAt t 5 (l .loop3 .k + 1)) (c .match3 .standards) (c .match3 .listed) =
+    let h : Holds 26 blankStandard (pairsOf s i ++ pairsAt t 5 (l .loop3 .k + 1)) (c .match3 .standards) (c .match3 .listed) =
     rw (gather-more, ← append-assoc)
     (⊎-elim (λ w. took (l .loop3 .inv .2) (ap ofPair (told ∙ w .1 .given .1)) (omega arith) (w .3) (w .4))
     (λ w. kept (l .loop3 .inv .2) (ap ofPair (told ∙ w .1 .given .1)) (w .2) (w .3))
@@ -116,7 +116,7 @@ loop3-again c =
 grown : (c : tie.At-match2-came Inv-loop μ-loop Inv-loop3 μ-loop3 Inv-loop2 μ-loop2)
     → let l : tie.At-loop2 Inv-loop μ-loop Inv-loop3 μ-loop3 Inv-loop2 μ-loop2 = c .before .before .before .before in
     let m = c .match2 in
-    Listed (now (l .before .before .before .before .args .s)) (l .loop2 .i + 1) (m .standards) (m .listed) (m .timings) (m .timed) (m .points) (m .pointed) (m .entries) (m .entered)
+    Gathered (now (l .before .before .before .before .args .s)) (l .loop2 .i + 1) (m .standards) (m .listed) (m .timings) (m .timed) (m .points) (m .pointed) (m .entries) (m .entered)
 grown c =
     let x = c .before in
     let l = x .before .before .before in
@@ -128,18 +128,18 @@ grown c =
     (kept (h .pairs) refl (w .3) (w .4)) (took (h .detailed) refl (omega arith) (w .5) (w .6)) (kept (h .white) refl (w .7) (w .8)) (kept (h .described) refl (w .9) (w .10)))
     (⊎-elim (λ w. let all : w .2 .k ≡ 6 = omega arith in one-more h (says x ∙ ap (ofSlot t) (w .1 .given .1)) refl
     (renamed (rw (all, add-sub-cancel-left) at (w .2 .inv .2)) (w .4) (w .5)) (kept (h .detailed) refl (w .6) (w .7)) (kept (h .white) refl (w .8) (w .9)) (kept (h .described) refl (w .10) (w .11)))
-    (⊎-elim (λ w. one-more h (says x ∙ ap (ofSlot t) (w .1 .given .1 ∙ ap Slot.White (w .4 .given .1))) refl
+    (⊎-elim (λ w. one-more h (says x ∙ ap (ofSlot t) (w .1 .given .1 ∙ ap Slot.Points (w .4 .given .1))) refl
     (kept (h .pairs) refl (w .5) (w .6)) (kept (h .detailed) refl (w .7) (w .8)) (kept (h .white) refl (w .9) (w .10)) (kept (h .described) refl (w .11) (w .12)))
-    (⊎-elim (λ w. one-more h (says x ∙ ap (ofSlot t) (w .1 .given .1 ∙ ap Slot.White (w .4 .given .1))) refl
+    (⊎-elim (λ w. one-more h (says x ∙ ap (ofSlot t) (w .1 .given .1 ∙ ap Slot.Points (w .4 .given .1))) refl
     (kept (h .pairs) refl (w .6) (w .7)) (kept (h .detailed) refl (w .8) (w .9)) (took (h .white) refl (omega arith) (w .10) (w .11)) (kept (h .described) refl (w .12) (w .13)))
-    (⊎-elim (λ w. one-more h (says x ∙ ap (ofSlot t) (w .1 .given .1 ∙ ap Slot.White (w .4 .given .1))) refl
+    (⊎-elim (λ w. one-more h (says x ∙ ap (ofSlot t) (w .1 .given .1 ∙ ap Slot.Points (w .4 .given .1))) refl
     (kept (h .pairs) refl (w .6) (w .7)) (kept (h .detailed) refl (w .8) (w .9)) (took-two (h .white) refl (omega arith) (w .10) (w .11)) (kept (h .described) refl (w .12) (w .13)))
     (λ w. one-more h (says x ∙ ap (ofSlot t) (w .1 .given .1)) refl
     (kept (h .pairs) refl (w .3) (w .4)) (kept (h .detailed) refl (w .5) (w .6)) (kept (h .white) refl (w .7) (w .8)) (took (h .described) refl (omega arith) (w .9) (w .10))))))))
     (c .match2 .came)
 
 loop2-again : tie.Need-loop2-again Inv-loop μ-loop Inv-loop3 μ-loop3 Inv-loop2 μ-loop2
-loop2-again c = (search needs, room (grown c), grown c)
+loop2-again c = (search needs, bounds (grown c), grown c)
 
 record-of-requires : tie.Need-record-of-requires Inv-loop μ-loop Inv-loop3 μ-loop3 Inv-loop2 μ-loop2
 record-of-requires c κs =

@@ -1,5 +1,4 @@
 -- `standard_slots::padding_refusal` meets its contract: by its test. Assumes nothing.
-use mathlib.Core.Path.{_≡_, sym, ap, _∙_}
 use borrow.Author.Needs.{needs}
 use Rattle.standard_slots.proofs.padding_refusal.Statement.{statement}
 use Rattle.standard_slots.proofs.padding_refusal.Tie as tie

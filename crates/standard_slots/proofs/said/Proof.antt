@@ -1,10 +1,9 @@
--- `standard_slots::slot_in` meets its contract: each arm by its tests. Assumes nothing.
-use mathlib.Core.Path.{_∙_}
+-- `standard_slots::said` meets its contract: each arm by its tests. Assumes nothing.
 use borrow.Author.Tests.{eq-eqb, ne-eqb}
 use borrow.Author.Needs.{needs}
 use Rattle.standard_slots.specs.Said.{said}
-use Rattle.standard_slots.proofs.slot_in.Statement.{statement}
-use Rattle.standard_slots.proofs.slot_in.Tie as tie
+use Rattle.standard_slots.proofs.said.Statement.{statement}
+use Rattle.standard_slots.proofs.said.Tie as tie
 
 returns : tie.Need-returns
 unfolding said
@@ -32,8 +31,8 @@ returns-4 c =
     let e = m .before in
     rw (← e .before .clock-in .ensures, ne-eqb _ _ (e .if1 .left), ← m .timing-in .ensures, c .enum-told .given .1)
 
-pub slot-in-spec : {M : Type 1} → statement M
-slot-in-spec =
+pub said-spec : {M : Type 1} → statement M
+said-spec =
     tie.close
     (tie.spec
     (search needs)
