@@ -18,11 +18,10 @@ use Rattle.standard_record.specs.declared.Held.{Held}
 use Rattle.standard_record.specs.declared.Verdict.the-variants.{Accepted, Refused}
 use Rattle.standard_slots.specs.Said.{Said, refusal, pairsAt, lists}
 use Rattle.standard_slots.specs.Few.{pairs-at-most}
-use Rattle.standard_reading.specs.declared.SlotLists.{SlotLists}
 use Rattle.standard_verdict.specs.Verdict.{refusedAt, _then_, beforeSlots}
 use Rattle.standard_reading.specs.Slots.{start, saidIn, judge, judged}
 use Rattle.standard_reading.specs.Block.{timingsOf, pairsOf, pointsOf, descriptorsOf}
-use Rattle.standard_reading.specs.Lists.{slotListsOf}
+use Rattle.standard_reading.specs.Lists.{ListsOf}
 use Rattle.standard_reading.specs.Room.{timings-room, pairs-room, points-room, descriptors-room}
 
 -- what is not refused before the slots has 128 bytes
@@ -96,17 +95,13 @@ pairs-so-far s t i k h = omega (arith, held-at-most h, length-append (pairsOf s 
 
 -- the four slots' lists
 pub lists-are : {s : List ℕ} {st : List StandardTiming} {ns : ℕ} {dt : List DetailedTiming} {nd : ℕ} {wp : List WhitePoint} {np : ℕ} {ds : List Held} {nh : ℕ}
-    → Gathered s 4 st ns dt nd wp np ds nh
-    → _≡_ {A = SlotLists} (record {
-      standard = record { items = st; len = ns };
-      detailed = record { items = dt; len = nd };
-      points = record { items = wp; len = np };
-      descriptors = record { items = ds; len = nh };
-    }) (slotListsOf s)
-lists-are h =
-    λ j. record {
-      standard = record { items = h .pairs .are j; len = h .pairs .many j };
-      detailed = record { items = h .detailed .are j; len = h .detailed .many j };
-      points = record { items = h .white .are j; len = h .white .many j };
-      descriptors = record { items = h .described .are j; len = h .described .many j };
+    → length s ≡ 128 → Gathered s 4 st ns dt nd wp np ds nh
+    → ListsOf s (record { items = wp; len = np }) (record { items = st; len = ns }) (record { items = dt; len = nd }) (record { items = ds; len = nh })
+lists-are e h =
+    record {
+      whole = e;
+      points = λ j. record { items = h .white .are j; len = h .white .many j };
+      standard = λ j. record { items = h .pairs .are j; len = h .pairs .many j };
+      detailed = λ j. record { items = h .detailed .are j; len = h .detailed .many j };
+      described = λ j. record { items = h .described .are j; len = h .described .many j };
     }

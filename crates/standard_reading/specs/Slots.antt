@@ -7,6 +7,7 @@ use Rattle.standard_record.specs.declared.Verdict.the-variants.{Accepted}
 use Rattle.standard_verdict.specs.Verdict.{refusedAt, _then_, beforeSlots}
 use Rattle.standard_slots.specs.Said.{Said, refusal, nothing, timing, pairs, points, described, said}
 
+-- where slot i begins
 abbrev pub start : ℕ → ℕ
 start i = 54 + 18 * i
 
@@ -14,6 +15,7 @@ start i = 54 + 18 * i
 abbrev pub saidIn : List ℕ → ℕ → Said
 saidIn s i = said i (part s (start i) 18) (start i)
 
+-- the verdict on a slot that says this, and begins there
 abbrev pub judge : Said → ℕ → Verdict
 judge (refusal n) at = refusedAt n at
 judge nothing at = Accepted

@@ -23,26 +23,21 @@ ghost use lib.ListN.{length};
 ghost use Rattle.standard_record.specs.Filler.{blank};
 ghost use Rattle.standard_verdict.specs.Verdict.{beforeSlots};
 ghost use Rattle.standard_reading.specs.Block.{recordOf, standardOf};
-ghost use Rattle.standard_reading.specs.Lists.{slotListsOf};
-
-// What the slots list, with the eight pairs before them.
-struct SlotLists {
-    standard: StandardTimings,
-    detailed: DetailedTimings,
-    points: WhitePoints,
-    descriptors: Descriptors,
-}
+ghost use Rattle.standard_reading.specs.Lists.{ListsOf};
 
 // ---- the answers
 
-fn record_of(s: &[u8], lists: SlotLists) -> StandardRecord
-    requires { ⌜ (length (now s) ≡ 128) × (lists ≡ slotListsOf (now s)) ⌝ }
+// The lists are those that the block says.
+fn record_of(
+    s: &[u8],
+    points: WhitePoints,
+    standard: StandardTimings,
+    detailed: DetailedTimings,
+    descriptors: Descriptors,
+) -> StandardRecord
+    requires { ⌜ ListsOf (now s) points standard detailed descriptors ⌝ }
     ensures { λ r. ⌜ r ≡ recordOf (now (s .entry)) ⌝ }
 {
-    let points = lists.points;
-    let standard = lists.standard;
-    let detailed = lists.detailed;
-    let descriptors = lists.descriptors;
     StandardRecord {
         product: standard_head::product_in(s),
         version: Version {
@@ -85,7 +80,8 @@ fn read_slots(s: &[u8]) -> StandardReading
     let mut listed = 0;
     let mut k: usize = 0;
     while k < 8 {
-        if let Pair::Listed(p) = standard_parts::pair_of(s[38 + 2 * k], s[38 + 2 * k + 1]) {
+        let a = 38 + 2 * k;
+        if let Pair::Listed(p) = standard_parts::pair_of(s[a], s[a + 1]) {
             standards[listed] = p;
             listed += 1;
         }
@@ -112,10 +108,8 @@ fn read_slots(s: &[u8]) -> StandardReading
             Slot::Pairs => {
                 let mut k: usize = 0;
                 while k < 6 {
-                    if let Pair::Listed(p) = standard_parts::pair_of(
-                        t[5 + 2 * k],
-                        t[5 + 2 * k + 1],
-                    ) {
+                    let a = 5 + 2 * k;
+                    if let Pair::Listed(p) = standard_parts::pair_of(t[a], t[a + 1]) {
                         standards[listed] = p;
                         listed += 1;
                     }
@@ -141,26 +135,27 @@ fn read_slots(s: &[u8]) -> StandardReading
         }
         i += 1;
     }
-    let lists = SlotLists {
-        points: WhitePoints {
+    let edid = record_of(
+        s,
+        WhitePoints {
             items: points,
             len: pointed,
         },
-        standard: StandardTimings {
+        StandardTimings {
             items: standards,
             len: listed,
         },
-        detailed: DetailedTimings {
+        DetailedTimings {
             items: timings,
             len: timed,
         },
-        descriptors: Descriptors {
+        Descriptors {
             items: entries,
             len: entered,
         },
-    };
+    );
     StandardReading {
-        edid: record_of(s, lists),
+        edid,
         end: Verdict::Accepted,
     }
 }

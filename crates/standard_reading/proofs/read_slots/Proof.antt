@@ -145,7 +145,7 @@ record-of-requires : tie.Need-record-of-requires Inv-loop μ-loop Inv-loop3 μ-l
 record-of-requires c κs =
     let l = c .before in
     let all : l .loop2 .i ≡ 4 = omega arith in
-    (l .before .before .before .before .pre .0, lists-are (rw all at (l .loop2 .inv .2)))
+    lists-are (l .before .before .before .before .pre .0) (rw all at (l .loop2 .inv .2))
 
 returns-2 : tie.Need-returns-2 Inv-loop μ-loop Inv-loop3 μ-loop3 Inv-loop2 μ-loop2
 unfolding standardOf
@@ -165,8 +165,6 @@ read-slots-spec =
     Inv-loop2
     μ-loop2
     loop-holds
-    (λ c. search needs)
-    (λ c. search needs)
     (λ c. search needs)
     (λ c. search needs)
     (λ c. search needs)
@@ -200,8 +198,6 @@ read-slots-spec =
     (λ c. search needs)
     (λ c. search needs)
     loop3-holds
-    (λ c. search needs)
-    (λ c. search needs)
     (λ c. search needs)
     (λ c. search needs)
     (λ c. search needs)
