@@ -22,12 +22,12 @@ unfolding spaces
 takes-spaces zero = no-byte
 takes-spaces (suc n) =
     takes-looser (spaces (suc n)) (2 + n * 2) (2 + n * 2) (suc n * 2) (suc n * 2) (omega arith) (omega arith)
-    (takes-then word _ 2 2 (n * 2) (n * 2) takes-word (λ w. takes-ensured (eqb w 0x2020) 5 _ (n * 2) (n * 2) (omega arith) (takes-spaces n)))
+    (takes-then word _ 2 2 (n * 2) (n * 2) takes-word (λ w. takes-ensured (eqb w 0x2020) 5 _ (n * 2) (n * 2) (omega arith, omega arith) (takes-spaces n)))
 
 pub takes-closing : (n : ℕ) → Takes (1 + n * 2) (1 + n * 2) (closing n)
 unfolding closing
 takes-closing n =
-    takes-then byte _ 1 1 (n * 2) (n * 2) takes-byte (λ b. takes-ensured (eqb b 0x0a) 4 _ (n * 2) (n * 2) (omega arith) (takes-spaces n))
+    takes-then byte _ 1 1 (n * 2) (n * 2) takes-byte (λ b. takes-ensured (eqb b 0x0a) 4 _ (n * 2) (n * 2) (omega arith, omega arith) (takes-spaces n))
 
 takes-point : Takes 5 5 point
 unfolding point byte
@@ -55,7 +55,7 @@ takes-gtf : Takes 7 7 gtf
 unfolding gtf
 takes-gtf =
     takes-then byte _ 1 1 6 6 takes-byte
-    (λ b. takes-ensured (eqb b 0x00) 4 _ 6 6 (omega arith)
+    (λ b. takes-ensured (eqb b 0x00) 4 _ 6 6 (omega arith, omega arith)
     (takes-then byte _ 1 1 5 5 takes-byte
     (λ start. takes-then byte _ 1 1 4 4 takes-byte
     (λ c. takes-then word _ 2 2 2 2 takes-word

@@ -1,39 +1,52 @@
 -- The whole of the crate reading, as `EDID::parse` of the source has it: part after part, then one extension count.
 use Prim.Native.Nat.{ℕ}
-use mathlib.Core.List.{List}
-use Rattle.steps.specs.Steps.{Steps, done, _>>=_, _>>_, Outcome, run}
+use mathlib.Core.List.{List, _++_}
+use Rattle.steps.specs.Steps.{Steps, done, _>>=_, _>>_, map, Outcome, run}
 use Rattle.steps.specs.Leaves.{byte}
-use Rattle.crate_record.specs.Lists.{noStandard}
+use Rattle.crate_record.specs.Seen.{Seen, holding}
 use Rattle.crate_record.specs.declared.EDID.{EDID}
-use Rattle.shared_record.specs.declared.EstablishedTimings.{EstablishedTimings}
+use Rattle.crate_record.specs.declared.StandardTiming.{StandardTiming}
 use Rattle.crate_head.specs.Head.{front}
 use Rattle.crate_head.specs.declared.Front.{Front}
 use Rattle.crate_timings.specs.Established.{established}
 use Rattle.crate_timings.specs.Pairs.{pairs}
-use Rattle.crate_slots.specs.Slots.{descriptors}
-use Rattle.crate_slots.specs.declared.Lists.{Lists}
+use Rattle.crate_slots.specs.Slots.{Said, slots, together}
 
--- the parts, with the timing information all in one place
-unfoldable pub edidOf : Front → EstablishedTimings → Lists → ℕ → EDID
-edidOf f e l n =
-    record {
-      product = f .product;
-      version = f .version;
-      display = f .display;
-      color = record { basic = f .basic; points = l .points };
-      timings = record { established = e; standard = l .standard; detailed = l .detailed };
-      descriptors = l .descriptors;
-      extensions = n;
-    }
+-- what is read, with the lists as the source's `Vec`s are
+pub record Parts : Type 0 where
+  pub front : Front
+  pub established : List ℕ
+  pub eight : List StandardTiming
+  pub slots : List Said
+  pub extensions : ℕ
 
-unfoldable pub reading : Steps EDID
-reading = do
+unfoldable pub parts : Steps Parts
+parts = do
   f ← front
   e ← established
-  eight ← pairs 8 noStandard
-  l ← descriptors eight
+  a ← pairs 8
+  xs ← slots
   n ← byte
-  done (edidOf f e l n)
+  done (record { front = f; established = e; eight = a; slots = xs; extensions = n })
+
+-- what is to be shown of it, list by list
+unfoldable pub shown : Parts → Seen
+shown p = record {
+  product = p .front .product;
+  version = p .front .version;
+  display = p .front .display;
+  basic = p .front .basic;
+  points = together (p .slots) .points;
+  established = p .established;
+  standard = p .eight ++ together (p .slots) .standards;
+  detailed = together (p .slots) .timings;
+  descriptors = together (p .slots) .descriptors;
+  extensions = p .extensions;
+}
+
+-- the record holds each list in an array
+unfoldable pub reading : Steps EDID
+reading = map (λ p. holding (shown p)) parts
 
 -- what the reading answers on the bytes s
 abbrev pub answer : List ℕ → Outcome EDID

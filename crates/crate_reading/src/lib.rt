@@ -14,7 +14,8 @@ use steps::Refusal;
 ghost use mathlib.Core.Path.{_≡_};
 ghost use Rattle.steps.specs.Leaves.{Beside};
 ghost use Rattle.crate_record.specs.Filler.{blank};
-ghost use Rattle.crate_reading.specs.Reading.{edidOf, answer};
+ghost use Rattle.crate_reading.specs.Reading.{answer};
+ghost use Rattle.crate_reading.specs.Filling.{edidOf};
 
 fn refuse(f: Refusal) -> Reading
     ensures { λ r. ⌜ (r .edid ≡ blank) × (r .end ≡ End.Refused f) ⌝ }

@@ -9,7 +9,7 @@ use Rattle.steps.specs.Steps.{Steps, done, refuse, _>>=_, run, andThen, Outcome
 use Rattle.steps.specs.Laws.{step, same-run, zero-left}
 use Rattle.steps.specs.Laws as Turns
 use Rattle.steps.specs.declared.Cursor.{Cursor}
-use Rattle.crate_record.specs.Lists.{pushDetailed, pushPoint, pushDescriptor}
+use Rattle.crate_record.specs.Filling.{pushDetailed, pushPoint, pushDescriptor}
 use Rattle.crate_record.specs.declared.StandardTiming.{StandardTiming}
 use Rattle.crate_record.specs.declared.StandardTimings.{StandardTimings}
 use Rattle.crate_record.specs.declared.DetailedTiming.{DetailedTiming}
@@ -19,7 +19,7 @@ use Rattle.crate_record.specs.declared.MonitorDescriptor.{MonitorDescriptor}
 use Rattle.crate_detailed.specs.Detailed.{detailed}
 use Rattle.crate_detailed.specs.declared.MaybeTiming.{MaybeTiming}
 use Rattle.crate_detailed.specs.declared.MaybeTiming.the-variants as Maybe
-use Rattle.crate_timings.specs.Pairs.{pairs}
+use Rattle.crate_timings.specs.Filling.{fillPairs}
 use Rattle.crate_descriptors.specs.Descriptors.{descriptor}
 use Rattle.crate_descriptors.specs.Answers.{ofSlot}
 use Rattle.crate_descriptors.specs.declared.Points.{Points}
@@ -28,51 +28,51 @@ use Rattle.crate_descriptors.specs.declared.Slot.{Slot}
 use Rattle.crate_descriptors.specs.declared.Slot.the-variants.{Described, White, Six}
 use Rattle.crate_descriptors.specs.declared.SlotRead.{SlotRead}
 use Rattle.crate_slots.specs.declared.Lists.{Lists}
-use Rattle.crate_slots.specs.Slots.{timed, pointed, closed, into, first, later, slots}
+use Rattle.crate_slots.specs.Filling.{timed, pointed, closed, fillBy, fillFirst, fillLater, fillMore}
 
 -- what slot i of the four makes of the lists
 abbrev pub place : ℕ → Lists → MaybeTiming → Steps Lists
-place zero = first
-place (suc i) = later
+place zero = fillFirst
+place (suc i) = fillLater
 
 -- the slots from i on
 abbrev pub turns : ℕ → Lists → Steps Lists
-turns zero a = detailed >>= (λ t. first a t >>= slots 3)
-turns (suc i) a = slots (3 - i) a
+turns zero a = detailed >>= (λ t. fillFirst a t >>= fillMore 3)
+turns (suc i) a = fillMore (3 - i) a
 
 pub turns-more : (i : ℕ) (a : Lists) → i < 4 → turns i a ≡ (detailed >>= (λ t. place i a t >>= turns (i + 1)))
-unfolding slots
+unfolding fillMore
 turns-more zero a h = refl
 turns-more (suc i) a h =
     let less : i < 3 = omega arith in
     let next : suc (i + 1) ≡ suc i + 1 = omega arith in
-    ap (λ (k : ℕ). slots k a) (Turns.more 3 i less) ∙ (λ j. detailed >>= (λ t. later a t >>= turns (next j)))
+    ap (λ (k : ℕ). fillMore k a) (Turns.more 3 i less) ∙ (λ j. detailed >>= (λ t. fillLater a t >>= turns (next j)))
 
 pub turns-end : (i : ℕ) (a : Lists) → 4 ≤ i → turns i a ≡ done a
-unfolding slots
+unfolding fillMore
 turns-end zero a h = absurd (omega arith)
-turns-end (suc i) a h = ap (λ (k : ℕ). slots k a) (zero-left 3 i (omega arith))
+turns-end (suc i) a h = ap (λ (k : ℕ). fillMore k a) (zero-left 3 i (omega arith))
 
 pub place-some : (i : ℕ) (a : Lists) {t : MaybeTiming} {d : DetailedTiming} → t ≡ Maybe.Some d → place i a t ≡ done (timed a d)
-place-some zero a e = ap (first a) e
-place-some (suc i) a e = ap (later a) e
+place-some zero a e = ap (fillFirst a) e
+place-some (suc i) a e = ap (fillLater a) e
 
 pub place-first : {i : ℕ} (a : Lists) {t : MaybeTiming} → i ≡ 0 → t ≡ Maybe.None → place i a t ≡ refuse 3
-place-first a {t} z e = ap (λ (k : ℕ). place k a t) z ∙ ap (first a) e
+place-first a {t} z e = ap (λ (k : ℕ). place k a t) z ∙ ap (fillFirst a) e
 
-pub place-later : (i : ℕ) (a : Lists) {t : MaybeTiming} → (i ≡ 0 → ⊥) → t ≡ Maybe.None → place i a t ≡ (descriptor >>= into a)
+pub place-later : (i : ℕ) (a : Lists) {t : MaybeTiming} → (i ≡ 0 → ⊥) → t ≡ Maybe.None → place i a t ≡ (descriptor >>= fillBy a)
 place-later zero a n e = absurd (n refl)
-place-later (suc i) a n e = ap (later a) e
+place-later (suc i) a n e = ap (fillLater a) e
 
 -- a later slot without timing: what its descriptor comes to
 pub described : (i : ℕ) (a : Lists) {t : MaybeTiming} (s : List ℕ) (at : ℕ) {r r′ : SlotRead} → (i ≡ 0 → ⊥) → t ≡ Maybe.None
-    → ofSlot r ≡ run descriptor s at → r ≡ r′ → run (place i a t) s at ≡ andThen (ofSlot r′) (λ x m. run (into a x) s m)
-described i a s at n e h m = same-run s at (place-later i a n e) ∙ step ofSlot descriptor (into a) s at h m
+    → ofSlot r ≡ run descriptor s at → r ≡ r′ → run (place i a t) s at ≡ andThen (ofSlot r′) (λ x m. run (fillBy a x) s m)
+described i a s at n e h m = same-run s at (place-later i a n e) ∙ step ofSlot descriptor (fillBy a) s at h m
 
 -- an fa slot: what its six pairs come to
-pub six : (a : Lists) {x : Slot} (s : List ℕ) (at : ℕ) {o : Outcome StandardTimings} → x ≡ Six → run (pairs 6 (a .standard)) s at ≡ o
-    → run (into a x) s at ≡ andThen o (λ l m. run (closed a l) s m)
-six a s at e h = same-run s at (ap (into a) e) ∙ step (λ o. o) (pairs 6 (a .standard)) (closed a) s at refl h
+pub six : (a : Lists) {x : Slot} (s : List ℕ) (at : ℕ) {o : Outcome StandardTimings} → x ≡ Six → run (fillPairs 6 (a .standard)) s at ≡ o
+    → run (fillBy a x) s at ≡ andThen o (λ l m. run (closed a l) s m)
+six a s at e h = same-run s at (ap (fillBy a) e) ∙ step (λ o. o) (fillPairs 6 (a .standard)) (closed a) s at refl h
 
 -- the lists, as the code holds them: arrays and counts
 abbrev pub lists : List StandardTiming → ℕ → List DetailedTiming → ℕ → List WhitePoint → ℕ → List Held → ℕ → Lists
@@ -92,26 +92,26 @@ module _ (st : List StandardTiming) (ns : ℕ) (dt : List DetailedTiming) (nd : 
 
   module _ {x : Slot} where
     pub described-room : {d : MonitorDescriptor} → x ≡ Described d → nh < 3
-        → into (lists st ns dt nd wp np ds nh) x ≡ done (lists st ns dt nd wp np (set ds nh (record { descriptor = d })) (nh + 1))
+        → fillBy (lists st ns dt nd wp np ds nh) x ≡ done (lists st ns dt nd wp np (set ds nh (record { descriptor = d })) (nh + 1))
     unfolding pushDescriptor
     described-room {d} e h =
-        ap (into (lists st ns dt nd wp np ds nh)) e
+        ap (fillBy (lists st ns dt nd wp np ds nh)) e
         ∙ (λ i. done (lists st ns dt nd wp np (put-room 3 ds nh (record { descriptor = d }) h i) (more-room 3 nh h i)))
 
     pub one-room : {ps : Points} {p : WhitePoint} → x ≡ White ps → ps ≡ One p → np < 6
-        → into (lists st ns dt nd wp np ds nh) x ≡ done (lists st ns dt nd (set wp np p) (np + 1) ds nh)
+        → fillBy (lists st ns dt nd wp np ds nh) x ≡ done (lists st ns dt nd (set wp np p) (np + 1) ds nh)
     unfolding pushPoint
     one-room {ps} {p} e f h =
-        ap (into (lists st ns dt nd wp np ds nh)) (e ∙ ap White f)
+        ap (fillBy (lists st ns dt nd wp np ds nh)) (e ∙ ap White f)
         ∙ (λ i. done (lists st ns dt nd (put-room 6 wp np p h i) (more-room 6 np h i) ds nh))
 
     pub two-room : {ps : Points} {p q : WhitePoint} → x ≡ White ps → ps ≡ Two p q → np + 1 < 6
-        → into (lists st ns dt nd wp np ds nh) x ≡ done (lists st ns dt nd (set (set wp np p) (np + 1) q) (np + 2) ds nh)
+        → fillBy (lists st ns dt nd wp np ds nh) x ≡ done (lists st ns dt nd (set (set wp np p) (np + 1) q) (np + 2) ds nh)
     unfolding pushPoint
     two-room {ps} {p} {q} e f h =
         let l : np < 6 = omega arith in
         let two : np + 1 + 1 ≡ np + 2 = omega arith in
-        ap (into (lists st ns dt nd wp np ds nh)) (e ∙ ap White f)
+        ap (fillBy (lists st ns dt nd wp np ds nh)) (e ∙ ap White f)
         ∙ (λ i. done (lists st ns dt nd (put 6 (put-room 6 wp np p l i) (more-room 6 np l i) q) (more 6 (more-room 6 np l i)) ds nh))
         ∙ (λ i. done (lists st ns dt nd (put-room 6 (set wp np p) (np + 1) q h i) ((more-room 6 (np + 1) h ∙ two) i) ds nh))
 

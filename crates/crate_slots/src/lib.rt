@@ -16,9 +16,9 @@ use steps::Cursor;
 use steps::End;
 use steps::Refusal;
 ghost use mathlib.Core.Path.{_≡_};
-ghost use Rattle.steps.specs.Steps.{run};
+ghost use Rattle.steps.specs.Steps.{run, map};
 ghost use Rattle.steps.specs.Leaves.{Beside};
-ghost use Rattle.crate_slots.specs.Slots.{noLists, descriptors};
+ghost use Rattle.crate_slots.specs.Slots.{slots, noLists, listsAfter};
 
 // What the slots hold, with the standard timings that came before them.
 pub struct Lists {
@@ -65,7 +65,7 @@ fn refuse(f: Refusal) -> ListsRead
 
 // Slot after slot. The lists are local arrays that this function alone fills: no call takes or returns one, but for the answer.
 pub fn take_descriptors(c: Cursor, s: &[u8], a: StandardTimings) -> ListsRead
-    ensures { λ r. ⌜ Beside noLists (r .lists) (r .end) (run (descriptors a) (now (s .entry)) (c .at)) ⌝ }
+    ensures { λ r. ⌜ Beside noLists (r .lists) (r .end) (run (map (listsAfter a) slots) (now (s .entry)) (c .at)) ⌝ }
 {
     let mut standards = a.items;
     let mut listed = a.len;

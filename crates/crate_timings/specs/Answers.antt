@@ -1,7 +1,12 @@
--- The answer of the reader of a pair as an outcome; at most one answer fits.
+-- The answer of the reader of a pair as an outcome; at most one answer fits, of each reader.
 use mathlib.Core.Path.{_≡_, refl}
+use mathlib.Core.List.{[]}
 use Rattle.steps.specs.Steps.{Outcome, got, refused}
-use Rattle.steps.specs.One.{OneAnswer, one-answer}
+use Rattle.steps.specs.One.{OneAnswer, one-answer, OneBeside, one-struct}
+use Rattle.shared_record.specs.Established.{establishedTimings}
+use Rattle.crate_record.specs.Lists.{standardTimings}
+use Rattle.crate_timings.specs.declared.EstablishedRead.{EstablishedRead}
+use Rattle.crate_timings.specs.declared.PairsRead.{PairsRead}
 use Rattle.crate_timings.specs.declared.Pair.{Pair}
 use Rattle.crate_timings.specs.declared.PairRead.{PairRead}
 use Rattle.crate_timings.specs.declared.PairRead.the-variants as P
@@ -20,3 +25,9 @@ one-pair = one-answer ofPair to back
     back : (r : PairRead) → to (ofPair r) ≡ r
     back (P.Got v c) = refl
     back (P.Refused f) = refl
+
+pub one-established : OneBeside {R = EstablishedRead} (establishedTimings []) (λ r. r .list) (λ r. r .end)
+one-established = one-struct _ _ _ (λ p. record { list = p .0; end = p .1 }) (λ r. refl)
+
+pub one-pairs : OneBeside {R = PairsRead} (standardTimings []) (λ r. r .list) (λ r. r .end)
+one-pairs = one-struct _ _ _ (λ p. record { list = p .0; end = p .1 }) (λ r. refl)

@@ -1,23 +1,42 @@
--- How many bytes the flags and n pairs take.
-use Prim.Native.Nat.{ℕ, zero, suc, _+_, _*_}
+-- How many bytes the flags and n pairs take, and how much they list at the most.
+use Prim.Native.Nat.{ℕ, zero, suc, _+_, _*_, _≤_}
+use mathlib.Core.Path.{_≡_}
+use mathlib.Core.List.{List, _++_}
 use native.Mathlib.Omega.{arith}
+use lib.ListN.{length, length-append}
+use Rattle.bits.specs.Fields.{bit}
+use Rattle.fixed.specs.Gather.{gather, when, when-at-most, gather-at-most}
 use Rattle.steps.specs.Leaves.{byte, word}
-use Rattle.steps.specs.Answers.{Takes, no-byte, takes-then, takes-looser, takes-byte, takes-word}
-use Rattle.crate_record.specs.declared.StandardTimings.{StandardTimings}
-use Rattle.crate_timings.specs.Established.{established}
-use Rattle.crate_timings.specs.Pairs.{pair, pairs, listed}
+use Rattle.steps.specs.Answers.{Ends, ends-then, takes-byte, takes-word}
+use Rattle.crate_record.specs.declared.StandardTiming.{StandardTiming}
+use Rattle.crate_timings.specs.declared.Pair.{Pair}
+use Rattle.crate_timings.specs.declared.Pair.the-variants.{Skipped, Listed}
+use Rattle.crate_timings.specs.Established.{flagsOf, established}
+use Rattle.crate_timings.specs.Pairs.{pairOf, pair, listed, pairs}
 
-pub takes-established : Takes 3 3 established
+flags-at-most : (ft last : ℕ) → length (flagsOf ft last) ≤ 17
+unfolding flagsOf
+flags-at-most ft last =
+    omega (
+      arith,
+      length-append (gather (λ k. when (bit ft k) k) 16) (when (bit last 7) 16),
+      gather-at-most (λ k. when (bit ft k) k) 1 (λ k. when-at-most (bit ft k) k) 16,
+      when-at-most {A = ℕ} (bit last 7) 16,
+    )
+
+pub ends-established : Ends (λ xs m. (length xs ≤ 17) × (m ≡ 3)) established
 unfolding established
-takes-established = takes-then word _ 2 2 1 1 takes-word (λ ft. takes-then byte _ 1 1 0 0 takes-byte (λ last. no-byte))
+ends-established =
+    ends-then word _ (λ w m. (2 ≤ m) × (m ≤ 2)) _ takes-word
+    (λ ft m q. ends-then byte _ (λ b k. (1 ≤ k) × (k ≤ 1)) _ takes-byte (λ last k r. (flags-at-most ft last, omega arith)))
 
-takes-pair : Takes 2 2 pair
-unfolding pair
-takes-pair = takes-then byte _ 1 1 1 1 takes-byte (λ low. takes-then byte _ 1 1 0 0 takes-byte (λ high. no-byte))
+pair-at-most : (p : Pair) (xs : List StandardTiming) (n : ℕ) → length xs ≤ n → length (listed p ++ xs) ≤ suc n
+pair-at-most Skipped xs n h = omega arith
+pair-at-most (Listed t) xs n h = omega arith
 
-pub takes-pairs : (n : ℕ) (a : StandardTimings) → Takes (n * 2) (n * 2) (pairs n a)
-unfolding pairs
-takes-pairs zero a = no-byte
-takes-pairs (suc n) a =
-    takes-looser (pairs (suc n) a) (2 + n * 2) (2 + n * 2) (suc n * 2) (suc n * 2) (omega arith) (omega arith)
-    (takes-then pair _ 2 2 (n * 2) (n * 2) takes-pair (λ p. takes-pairs n (listed a p)))
+pub ends-pairs : (n : ℕ) → Ends (λ xs m. (length xs ≤ n) × (m ≡ n * 2)) (pairs n)
+unfolding pairs pair byte
+ends-pairs zero = (omega arith, omega arith)
+ends-pairs (suc n) =
+    λ low high. ends-then (pairs n) _ (λ xs k. (length xs ≤ n) × (k ≡ n * 2)) _ (ends-pairs n)
+    (λ xs k q. (pair-at-most (pairOf low high) xs n (q .0), omega arith))

@@ -2,5 +2,5 @@
 pub mod Established
 pub mod Pairs
 pub mod Answers
-pub mod Laws
+pub mod Filling
 pub mod Lengths

@@ -1,14 +1,13 @@
--- Standard timings: pairs of bytes, listed in a fixed list with a length.
+-- Standard timings: pairs of bytes.
 use Prim.Native.Nat.{ℕ, zero, suc, _+_, _*_}
 use mathlib.Core.Bool.{_&&_, cond}
+use mathlib.Core.List.{List, [], _∷_, _++_}
 use lib.Dec.{eqb}
 use Rattle.bits.specs.Fields.{digits}
 use Rattle.steps.specs.Steps.{Steps, done, _>>=_, _>>_}
 use Rattle.steps.specs.Leaves.{byte}
 use Rattle.crate_record.specs.Single.{ratioOf}
-use Rattle.crate_record.specs.Lists.{pushStandard}
 use Rattle.crate_record.specs.declared.StandardTiming.{StandardTiming}
-use Rattle.crate_record.specs.declared.StandardTimings.{StandardTimings}
 use Rattle.crate_timings.specs.declared.Pair.{Pair}
 use Rattle.crate_timings.specs.declared.Pair.the-variants.{Skipped, Listed}
 
@@ -26,14 +25,15 @@ pair = do
   high ← byte
   done (pairOf low high)
 
--- the list after a pair
-abbrev pub listed : StandardTimings → Pair → StandardTimings
-listed a Skipped = a
-listed a (Listed t) = pushStandard a t
+-- what a pair lists
+abbrev pub listed : Pair → List StandardTiming
+listed Skipped = []
+listed (Listed t) = t ∷ []
 
 -- n pairs
-unfoldable pub pairs : ℕ → StandardTimings → Steps StandardTimings
-pairs zero a = done a
-pairs (suc n) a = do
+unfoldable pub pairs : ℕ → Steps (List StandardTiming)
+pairs zero = done []
+pairs (suc n) = do
   p ← pair
-  pairs n (listed a p)
+  xs ← pairs n
+  done (listed p ++ xs)

@@ -9,11 +9,14 @@ use steps::Refusal;
 use steps::TwoRead;
 use steps::WordRead;
 ghost use mathlib.Core.Path.{_≡_};
-ghost use Rattle.steps.specs.Steps.{run};
+ghost use Rattle.steps.specs.Steps.{run, map};
 ghost use Rattle.steps.specs.Leaves.{Beside};
-ghost use Rattle.crate_record.specs.Lists.{noFlags, noStandard};
-ghost use Rattle.crate_timings.specs.Established.{flagsIn, flag, establishedOf, established};
+ghost use mathlib.Core.List.{[]};
+ghost use Rattle.shared_record.specs.Established.{establishedTimings};
+ghost use Rattle.crate_record.specs.Lists.{standardTimings};
+ghost use Rattle.crate_timings.specs.Established.{flagsOf, established};
 ghost use Rattle.crate_timings.specs.Pairs.{standardTimingOf, pairOf, pair, pairs};
+ghost use Rattle.crate_timings.specs.Filling.{flagsIn, flag};
 ghost use Rattle.crate_timings.specs.Answers.{ofPair};
 
 // The list, and beside it how its reading ended; empty where it was refused.
@@ -39,7 +42,7 @@ pub struct PairsRead {
 }
 
 fn no_flags() -> EstablishedTimings
-    ensures { λ r. ⌜ r ≡ noFlags ⌝ }
+    ensures { λ r. ⌜ r ≡ establishedTimings [] ⌝ }
 {
     EstablishedTimings {
         items: [0u8; 17],
@@ -61,7 +64,7 @@ fn list_if(items: &mut [u8; 17], len: usize, on: bool, n: u8) -> usize
 }
 
 fn established_of(ft: u16, last: u8) -> EstablishedTimings
-    ensures { λ r. ⌜ r ≡ establishedOf ft last ⌝ }
+    ensures { λ r. ⌜ r ≡ establishedTimings (flagsOf ft last) ⌝ }
 {
     let mut items = [0u8; 17];
     let mut len = 0;
@@ -86,7 +89,7 @@ fn established_of(ft: u16, last: u8) -> EstablishedTimings
 }
 
 pub fn take_established(c: Cursor, s: &[u8]) -> EstablishedRead
-    ensures { λ r. ⌜ Beside noFlags (r .list) (r .end) (run established (now (s .entry)) (c .at)) ⌝ }
+    ensures { λ r. ⌜ Beside (establishedTimings []) (r .list) (r .end) (run (map establishedTimings established) (now (s .entry)) (c .at)) ⌝ }
 {
     match c.word(s) {
         WordRead::Refused(f) => EstablishedRead {
@@ -136,7 +139,7 @@ pub fn take_pair(c: Cursor, s: &[u8]) -> PairRead
 }
 
 pub fn no_standard() -> StandardTimings
-    ensures { λ r. ⌜ r ≡ noStandard ⌝ }
+    ensures { λ r. ⌜ r ≡ standardTimings [] ⌝ }
 {
     StandardTimings {
         items: [crate_record::BLANK_STANDARD; 26],
@@ -146,7 +149,7 @@ pub fn no_standard() -> StandardTimings
 
 // The list is a local array that this function alone fills: no call takes or returns it, but for the answer.
 pub fn take_pairs(c: Cursor, s: &[u8], n: usize) -> PairsRead
-    ensures { λ r. ⌜ Beside noStandard (r .list) (r .end) (run (pairs n noStandard) (now (s .entry)) (c .at)) ⌝ }
+    ensures { λ r. ⌜ Beside (standardTimings []) (r .list) (r .end) (run (map standardTimings (pairs n)) (now (s .entry)) (c .at)) ⌝ }
 {
     let mut items = [crate_record::BLANK_STANDARD; 26];
     let mut len = 0;

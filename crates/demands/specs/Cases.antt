@@ -7,19 +7,17 @@ use lib.Ieee.{ofBits, ofInt, add, div}
 use Rattle.timing.specs.Axis.{backPorch, acrossOf, downOf}
 use Rattle.steps.specs.Steps.{Outcome, got, refused}
 use Rattle.steps.specs.Leaves.{byte, word, long}
-use Rattle.crate_record.specs.Lists.{noFlags, pushFlag, noStandard, pushStandard, noDetailed, pushDetailed, noPoints, pushPoint, noDescriptors, pushDescriptor}
 use Rattle.crate_record.specs.Single.{f0, f1}
 use Rattle.crate_record.specs.declared.EDID.{EDID}
 use Rattle.crate_record.specs.declared.WhitePoint.{WhitePoint}
-use Rattle.crate_record.specs.declared.WhitePoints.{WhitePoints}
 use Rattle.crate_head.specs.Head.{header, maker, date, product, version, inputOf, input, sizeOf, gammaFrom, dpmsOf, dpms, display, color, front}
-use Rattle.crate_timings.specs.Established.{flag, establishedOf, established}
+use Rattle.crate_timings.specs.Established.{flagsOf as flagsBy, established}
 use Rattle.crate_timings.specs.Pairs.{standardTimingOf, pairOf, pair, pairs}
 use Rattle.crate_text.specs.Text.{scan, padding, skip, span, text}
 use Rattle.crate_detailed.specs.Detailed.{syncOf, fitted, axes, timingOf, timed, detailed}
 use Rattle.crate_descriptors.specs.Descriptors.{spaces, closing, pointOf, point, ended, second, points, white, stringOf, string, rawOf, raw, tagged, descriptor}
-use Rattle.crate_slots.specs.Slots.{begun, slots, descriptors}
-use Rattle.crate_reading.specs.Reading.{edidOf, reading, answer}
+use Rattle.crate_slots.specs.Slots.{later, slots}
+use Rattle.crate_reading.specs.Reading.{parts, shown, reading, answer}
 use Rattle.tags.specs.Tags.{tagOf}
 use Rattle.standard_record.specs.Filler.{blank}
 use Rattle.standard_record.specs.declared.StandardReading.{StandardReading}
@@ -33,7 +31,7 @@ use Rattle.standard_verdict.specs.Verdict.{beforeSlots}
 use Rattle.standard_slots.specs.Said.{pointAt, rangeIn, said}
 use Rattle.standard_reading.specs.Slots.{judged}
 use Rattle.standard_reading.specs.Block.{recordOf, standardOf}
-use Rattle.demands.specs.Specimen.{specimen, lobby, holding, named}
+use Rattle.demands.specs.Specimen.{specimen, lobby, specimenWith, named}
 use Rattle.demands.specs.Panels.{fullBlock, rangeBlock, blankBeside, showing, specimenShows, fullShows, rangeShows}
 
 -- a block, and what one of the two readings makes of it
@@ -65,23 +63,23 @@ pub longest : List ℕ
 longest = let slot = white-slot (0 ∷ 0 ∷ 0 ∷ 0 ∷ 0 ∷ []) in with (slot ++ slot ++ slot) 72 126
 
 -- the six points of the longest
-pub six : WhitePoints
+pub six : List WhitePoint
 six =
     let p : ℕ → WhitePoint = λ index. record { index = index; x = f0; y = f0; gamma = f1 } in
-    record { items = p 1 ∷ p 0 ∷ p 1 ∷ p 0 ∷ p 1 ∷ p 0 ∷ []; len = 6 }
+    p 1 ∷ p 0 ∷ p 1 ∷ p 0 ∷ p 1 ∷ p 0 ∷ []
 
 unfoldable pub cases : List Case
 cases =
-    crate-reads shortest (got (holding (lobby 40 88) noPoints noDescriptors) 88) ∷
-    crate-reads longest (got (holding (lobby 40 88) six noDescriptors) 142) ∷
+    crate-reads shortest (got (specimenWith (lobby 40 88) [] []) 88) ∷
+    crate-reads longest (got (specimenWith (lobby 40 88) six []) 142) ∷
     crate-reads [] (refused 1 0) ∷
     crate-reads (0x01 ∷ 0xff ∷ 0xff ∷ []) (refused 1 3) ∷
     crate-reads (0x01 ∷ 0xff ∷ 0xff ∷ 0xff ∷ []) (refused 2 4) ∷
-    crate-reads specimen (got (holding (lobby 40 88) noPoints named) 127) ∷
-    crate-reads (take 127 specimen) (got (holding (lobby 40 88) noPoints named) 127) ∷
+    crate-reads specimen (got (specimenWith (lobby 40 88) [] named) 127) ∷
+    crate-reads (take 127 specimen) (got (specimenWith (lobby 40 88) [] named) 127) ∷
     crate-reads (take 126 specimen) (refused 1 126) ∷
     crate-reads (set specimen 56 0) (refused 3 57) ∷
-    crate-reads (set specimen 62 0x80) (got (holding (lobby 128 0) noPoints named) 127) ∷
+    crate-reads (set specimen 62 0x80) (got (specimenWith (lobby 128 0) [] named) 127) ∷
     crate-reads (set specimen 62 0x81) (refused 6 66) ∷
     crate-reads (set specimen 83 0x21) (refused 5 84) ∷
     crate-reads (with (white-slot []) 72 90) (refused 4 93) ∷
@@ -99,5 +97,5 @@ cases =
     standard-reads rangeBlock rangeShows ∷ []
 
 pub cases-hold : Hold cases
-unfolding cases shortest longest six fullBlock rangeBlock showing specimenShows fullShows rangeShows specimen lobby holding named byte word long header maker date product version inputOf input sizeOf gammaFrom dpmsOf dpms display color front flag establishedOf established standardTimingOf pairOf pair pairs scan padding skip span text syncOf fitted axes timingOf timed detailed spaces closing pointOf point ended second points white stringOf string rawOf raw tagged descriptor begun slots descriptors edidOf reading tagOf standardOf beforeSlots judged recordOf said pointAt rangeIn timingIn productIn colorsIn inputBy imageOf gammaOf featuresOf pointBy flagsOf pairBy secondaryOf closingRefusal rangeRefusal blank noFlags pushFlag noStandard pushStandard noDetailed pushDetailed noPoints pushPoint noDescriptors pushDescriptor backPorch acrossOf downOf ofBits ofInt add div
+unfolding cases shortest longest six fullBlock rangeBlock showing specimenShows fullShows rangeShows specimen lobby specimenWith named byte word long header maker date product version inputOf input sizeOf gammaFrom dpmsOf dpms display color front flagsBy established standardTimingOf pairOf pair pairs scan padding skip span text syncOf fitted axes timingOf timed detailed spaces closing pointOf point ended second points white stringOf string rawOf raw tagged descriptor later slots parts shown reading tagOf standardOf beforeSlots judged recordOf said pointAt rangeIn timingIn productIn colorsIn inputBy imageOf gammaOf featuresOf pointBy flagsOf pairBy secondaryOf closingRefusal rangeRefusal blank backPorch acrossOf downOf ofBits ofInt add div
 cases-hold = (refl, (refl, (refl, (refl, (refl, (refl, (refl, (refl, (refl, (refl, (refl, (refl, (refl, (refl, (refl, (refl, (refl, (refl, (refl, (refl, (refl, (refl, (refl, (refl, (refl, tt)))))))))))))))))))))))))

@@ -1,5 +1,6 @@
--- What is shown of the definitions: worked cases, and demand 3.
+-- What is shown of the definitions: worked cases, demand 3, and what else holds of every answer.
 pub mod Specimen
 pub mod Panels
 pub mod Cases
 pub mod Demands
+pub mod Spans

@@ -3,16 +3,15 @@ use Prim.Native.Nat.{ℕ}
 use mathlib.Core.Bool.{true, false}
 use mathlib.Core.List.{List, [], _∷_}
 use lib.Ieee.{binary32, ofBits}
-use Rattle.fixed.specs.Fixed.{pad}
 use Rattle.timing.specs.Axis.{pixels, lines}
 use Rattle.timing.specs.declared.SyncPolarity.the-variants.{Positive}
 use Rattle.timing.specs.declared.StereoType.the-variants as Stereo
-use Rattle.crate_record.specs.Filler.{blankStandard, blankDetailed}
+use Rattle.crate_record.specs.Seen.{holding}
 use Rattle.crate_record.specs.declared.EDID.{EDID}
 use Rattle.crate_record.specs.declared.DetailedTiming.{DetailedTiming}
 use Rattle.crate_record.specs.declared.Chromaticity.{Chromaticity}
-use Rattle.crate_record.specs.declared.WhitePoints.{WhitePoints}
-use Rattle.crate_record.specs.declared.MonitorDescriptors.{MonitorDescriptors}
+use Rattle.crate_record.specs.declared.WhitePoint.{WhitePoint}
+use Rattle.crate_record.specs.declared.Held.{Held}
 use Rattle.crate_record.specs.declared.MonitorDescriptor.the-variants.{MonitorName, ManufacturerDefined}
 use Rattle.crate_record.specs.declared.SyncType.the-variants.{Separate}
 use Rattle.crate_record.specs.declared.VideoInput.the-variants.{Digital}
@@ -50,9 +49,9 @@ abbrev half-quarter : Chromaticity
 half-quarter = record { x = ofBits binary32 0x3f00_0000; y = ofBits binary32 0x3e80_0000 }
 
 -- the specimen's record, with this detailed timing, these white points and these descriptors
-unfoldable pub holding : DetailedTiming → WhitePoints → MonitorDescriptors → EDID
-holding t points descriptors =
-    record {
+unfoldable pub specimenWith : DetailedTiming → List WhitePoint → List Held → EDID
+specimenWith t points descriptors =
+    holding (record {
       product = record {
         maker = record { 0 = 16; 1 = 24; 2 = 4 };
         code = 4660;
@@ -74,29 +73,18 @@ holding t points descriptors =
           gtf = false;
         };
       };
-      color = record {
-        basic = record { red = half-quarter; green = half-quarter; blue = half-quarter; white = half-quarter };
-        points = points;
-      };
-      timings = record {
-        established = record { items = pad 17 0 (0 ∷ 11 ∷ 16 ∷ []); len = 3 };
-        standard = record {
-          items = pad 26 blankStandard (record { ratio = ofBits binary32 0x3fa0_0000; width = 1280; rate = 60 } ∷ []);
-          len = 1;
-        };
-        detailed = record { items = pad 4 blankDetailed (t ∷ []); len = 1 };
-      };
+      basic = record { red = half-quarter; green = half-quarter; blue = half-quarter; white = half-quarter };
+      points = points;
+      established = 0 ∷ 11 ∷ 16 ∷ [];
+      standard = record { ratio = ofBits binary32 0x3fa0_0000; width = 1280; rate = 60 } ∷ [];
+      detailed = t ∷ [];
       descriptors = descriptors;
       extensions = 0;
-    }
+    })
 
 -- its name, and two empty descriptors
-unfoldable pub named : MonitorDescriptors
+unfoldable pub named : List Held
 named =
-    record {
-      items =
-          record { descriptor = MonitorName (record { start = 77; len = 5 }) } ∷
-          record { descriptor = ManufacturerDefined 0 (record { start = 95; len = 13 }) } ∷
-          record { descriptor = ManufacturerDefined 0 (record { start = 113; len = 13 }) } ∷ [];
-      len = 3;
-    }
+    record { descriptor = MonitorName (record { start = 77; len = 5 }) } ∷
+    record { descriptor = ManufacturerDefined 0 (record { start = 95; len = 13 }) } ∷
+    record { descriptor = ManufacturerDefined 0 (record { start = 113; len = 13 }) } ∷ []

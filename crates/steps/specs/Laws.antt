@@ -116,3 +116,14 @@ refused-beside {A} {filler} {a} p q r =
 -- the same answer to an equal outcome, as where a function ends in a call
 pub beside-is : {A : Type 0} {filler a : A} {e : End} {o o′ : Outcome A} → Beside filler a e o → o ≡ o′ → Beside filler a e o′
 beside-is b q = record { answer = b .answer ∙ q; filled = b .filled }
+
+-- ---- programs that are equal
+
+pub then-then : {A B C : Type 0} (p : Steps A) (g : A → Steps B) (h : B → Steps C) → (p >>= g) >>= h ≡ (p >>= (λ a. g a >>= h))
+then-then (done a) g h = refl
+then-then (refuse k) g h = refl
+then-then (next f) g h = λ i. next (λ b. then-then (f b) g h i)
+then-then (here f) g h = λ i. here (λ n. then-then (f n) g h i)
+
+pub then-same : {A B : Type 0} (p : Steps A) {g h : A → Steps B} → ((a : A) → g a ≡ h a) → p >>= g ≡ (p >>= h)
+then-same p e = λ i. p >>= (λ a. e a i)

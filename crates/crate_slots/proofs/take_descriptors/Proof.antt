@@ -6,19 +6,17 @@ use mathlib.Core.Path.{_≡_, refl, sym, ap, _∙_}
 use mathlib.Core.Logic.{⊎-elim}
 use Prim.Native.Nat.{ℕ, zero, suc, _+_, _-_, _*_, _≤_, _<_}
 use denote.Ref.{now}
-use Rattle.steps.specs.Steps.{done, run, andThen, Outcome, got}
+use Rattle.steps.specs.Steps.{done, run, map, andThen, Outcome, got}
 use Rattle.steps.specs.Laws.{step, same-run, refused-beside}
-use Rattle.crate_record.specs.Lists.{noDetailed, noPoints, noDescriptors}
 use Rattle.crate_record.specs.declared.StandardTimings.{StandardTimings}
 use Rattle.crate_text.specs.Answers.{ofPad}
-use Rattle.crate_timings.specs.Pairs.{pair, pairs, listed}
-use Rattle.crate_timings.specs.Answers.{ofPair}
-use Rattle.crate_timings.specs.Laws.{pairs-more, pairs-end, listed-room, listed-full}
+use Rattle.crate_timings.specs.Filling.{fillPairs, pair-refused, pair-listed, pairs-end, into-room, into-full, skipped}
 use Rattle.crate_detailed.specs.Detailed.{detailed}
 use Rattle.crate_detailed.specs.Answers.{ofDetailed}
 use Rattle.crate_descriptors.specs.Descriptors.{closing}
 use Rattle.crate_slots.specs.declared.Lists.{Lists}
-use Rattle.crate_slots.specs.Slots.{begun, into, descriptors}
+use Rattle.crate_slots.specs.Slots.{slots, listsAfter}
+use Rattle.crate_slots.specs.Filling.{fillBy, fillSlots, slots-filled}
 use Rattle.crate_slots.specs.Laws.{place, turns, turns-more, turns-end, place-some, place-first, described, six, lists, timed-room, described-room, one-room, two-room, lists-are}
 use Rattle.crate_slots.proofs.take_descriptors.Statement.{statement}
 use Rattle.crate_slots.proofs.take_descriptors.Tie as tie
@@ -26,8 +24,8 @@ use Rattle.crate_slots.proofs.take_descriptors.Tie as tie
 -- the pairs of an fa slot
 abbrev Inv-loop2 : tie.InvT-loop2
 Inv-loop2 s standards₀ listed₀ timings timed points pointed entries entered c₀ i k₀ standards listed c k =
-    run (pairs 6 (record { items = standards₀; len = listed₀ })) s (c₀ .at)
-    ≡ run (pairs (6 - k) (record { items = standards; len = listed })) s (c .at)
+    run (fillPairs 6 (record { items = standards₀; len = listed₀ })) s (c₀ .at)
+    ≡ run (fillPairs (6 - k) (record { items = standards; len = listed })) s (c .at)
 
 abbrev μ-loop2 : tie.MeasureT-loop2
 μ-loop2 s standards₀ listed₀ timings timed points pointed entries entered c₀ i k₀ standards listed c k = 6 - k
@@ -91,9 +89,9 @@ held l =
 -- from the function's start to the start of a turn
 so-far : (l : At-loop)
     → let b : Start = l .before .before .before in
-    run (descriptors (b .args .a)) (now (b .args .s)) (b .args .c .at) ≡ run (turns (l .loop .i) (held l)) (now (b .args .s)) (l .loop .c .at)
-unfolding descriptors begun noDetailed noPoints noDescriptors
-so-far l = l .loop .inv .0
+    run (map (listsAfter (b .args .a)) slots) (now (b .args .s)) (b .args .c .at) ≡ run (turns (l .loop .i) (held l)) (now (b .args .s)) (l .loop .c .at)
+unfolding fillSlots
+so-far l = same-run _ _ (slots-filled _) ∙ l .loop .inv .0
 
 -- a turn, by what the slot comes to with those lists
 turn : {o : Outcome Lists} (c : After-t)
@@ -115,7 +113,7 @@ later-turn : {o : Outcome Lists} (c : After-x)
     → let t : After-t = c .before .before .before .before .before .before .before in
     let l : At-loop = t .before .before .before .before in
     let b : Start = l .before .before .before in
-    run (into (held l) (c .x .given .0 .0)) (now (b .args .s)) (c .x .given .0 .1 .0 .at) ≡ o
+    run (fillBy (held l) (c .x .given .0 .0)) (now (b .args .s)) (c .x .given .0 .1 .0 .at) ≡ o
     → run (turns (l .loop .i) (held l)) (now (b .args .s)) (l .loop .c .at)
     ≡ andThen o (λ a m. run (turns (l .loop .i + 1) a) (now (b .args .s)) m)
 later-turn c e =
@@ -172,23 +170,19 @@ returns-4 c =
     (so-far (x .before .before .before .before .before .before .before .before .before .before .before)
     ∙ later-turn x
     (six _ _ _ (e .enum-told3 .given .1)
-    (p .before .before .loop2 .inv ∙ same-run _ _ (pairs-more _ _ _ (p .before .loop2-test .taken))
-    ∙ step ofPair pair _ _ _ (p .take-pair .ensures) (c .before .before .f3 .given .1)))))
+    (p .before .before .loop2 .inv
+    ∙ pair-refused _ _ _ _ _ (p .before .loop2-test .taken) (p .take-pair .ensures) (c .before .before .f3 .given .1)))))
 
 loop2-again : tie.Need-loop2-again Inv-loop2 μ-loop2 Inv-loop μ-loop
 loop2-again c =
     let t = c .before .before .before .before in
     let l = t .before .before .loop2 in
     let a : StandardTimings = record { items = l .standards; len = l .listed } in
-    let now-listed : listed a (c .before .before .p .given .0 .0) ≡ record { items = c .match7 .standards; len = c .match7 .listed } =
-    ⊎-elim (λ w. listed-room a (w .1 .given .1) (w .3 .taken) ∙ (λ i. record { items = sym (w .4) i; len = sym (w .5) i }))
-    (⊎-elim (λ w. listed-full a (w .1 .given .1) (w .3 .left) ∙ (λ i. record { items = sym (w .4) i; len = sym (w .5) i }))
-    (λ w. ap (listed a) (w .1 .given .1) ∙ (λ i. record { items = sym (w .2) i; len = sym (w .3) i })))
-    (c .match7 .came)
-    in
-    l .inv ∙ same-run _ _ (pairs-more _ _ _ (t .before .loop2-test .taken))
-    ∙ step ofPair pair _ _ _ (t .take-pair .ensures) (c .before .before .p .given .1)
-    ∙ same-run _ _ (ap (pairs _) now-listed)
+    l .inv
+    ∙ pair-listed _ _ a _ _ (t .before .loop2-test .taken) (t .take-pair .ensures) (c .before .before .p .given .1)
+    (⊎-elim (λ w. into-room a (w .1 .given .1) (w .3 .taken) (w .4) (w .5))
+    (⊎-elim (λ w. into-full a (w .1 .given .1) (w .3 .left) (w .4) (w .5)) (λ w. skipped a (w .1 .given .1) (w .2) (w .3)))
+    (c .match7 .came))
 
 returns-5 : tie.Need-returns-5 Inv-loop2 μ-loop2 Inv-loop μ-loop
 returns-5 c =
@@ -199,7 +193,7 @@ returns-5 c =
     (sym
     (so-far (x .before .before .before .before .before .before .before .before .before .before .before)
     ∙ later-turn x
-    (six _ _ _ (e .enum-told3 .given .1) (p .before .before .loop2 .inv ∙ same-run _ _ (pairs-end _ _ _ (p .before .loop2-test .left)))
+    (six _ _ _ (e .enum-told3 .given .1) (p .before .before .loop2 .inv ∙ pairs-end _ _ _ _ _ (p .before .loop2-test .left))
     ∙ step ofPad (closing 0) _ _ _ (p .take-closing .ensures) (c .before .before .f4 .given .1))))
 
 -- what the slot makes of the lists, by the ways on which the turn's match is left, and that they still have room
@@ -224,7 +218,7 @@ grown c =
     ))
     (⊎-elim (λ w. (
       described (h .i) (held l) s at (w .2 .left) (w .1 .given .1) (w .3 .ensures) (w .5 .given .1)
-          ∙ same-run _ _ (ap (into (held l)) (w .8 .given .1))
+          ∙ same-run _ _ (ap (fillBy (held l)) (w .8 .given .1))
           ∙ lists-are (w .9) (w .10) (w .11) (w .12) (w .13) (w .14) (w .15) (w .16) (w .17),
       nothing-more (h .inv .1) (w .12) (w .14) (w .16),
     ))
@@ -248,7 +242,7 @@ grown c =
     ))
     (λ w. (
       described (h .i) (held l) s at (w .2 .left) (w .1 .given .1) (w .3 .ensures) (w .5 .given .1)
-          ∙ six _ _ _ (w .8 .given .1) (w .9 .inv ∙ same-run _ _ (pairs-end _ _ _ (w .10 .left)))
+          ∙ six _ _ _ (w .8 .given .1) (w .9 .inv ∙ pairs-end _ _ _ _ _ (w .10 .left))
           ∙ step ofPad (closing 0) _ _ _ (w .11 .ensures) (w .13 .given .1)
           ∙ lists-are (w .15) (w .16) (w .17) (w .18) (w .19) (w .20) (w .21) (w .22) (w .23),
       nothing-more (h .inv .1) (w .18) (w .20) (w .22),

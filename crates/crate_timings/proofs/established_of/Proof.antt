@@ -3,9 +3,8 @@ use mathlib.Core.Path.{_≡_, refl, _∙_}
 use mathlib.Core.Bool.{Bool}
 use Prim.Native.Nat.{ℕ}
 use borrow.Author.Needs.{needs}
-use Rattle.crate_record.specs.Lists.{noFlags}
 use Rattle.shared_record.specs.declared.EstablishedTimings.{EstablishedTimings}
-use Rattle.crate_timings.specs.Established.{flag, establishedOf}
+use Rattle.crate_timings.specs.Filling.{flag, all-flagged}
 use Rattle.crate_timings.proofs.established_of.Statement.{statement}
 use Rattle.crate_timings.proofs.established_of.Tie as tie
 
@@ -14,7 +13,6 @@ next : (n : ℕ) {l l′ a : EstablishedTimings} {on b : Bool} → a ≡ l → l
 next n e f t = f ∙ (λ i. flag (t i) n (e i))
 
 returns : tie.Need-returns
-unfolding establishedOf noFlags
 returns c =
     let c16 = c .before .before .before in
     let c15 = c16 .before .before .before in
@@ -48,7 +46,7 @@ returns c =
     let l14 = next 13 l13 (c14 .list-if14 .ensures) (c14 .before .is-set1614 .ensures) in
     let l15 = next 14 l14 (c15 .list-if15 .ensures) (c15 .before .is-set1615 .ensures) in
     let l16 = next 15 l15 (c16 .list-if16 .ensures) (c16 .before .is-set1616 .ensures) in
-    next 16 l16 (c .list-if17 .ensures) (c .before .is-set .ensures)
+    next 16 l16 (c .list-if17 .ensures) (c .before .is-set .ensures) ∙ all-flagged _ _
 
 pub established-of-spec : {M : Type 1} → statement M
 established-of-spec =

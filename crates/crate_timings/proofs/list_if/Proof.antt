@@ -1,8 +1,8 @@
 -- `crate_timings::list_if` meets its contract: each `return` by the tests that led there. Assumes nothing.
 use borrow.Author.Needs.{needs}
 use borrow.Author.Tests.{lt-ltb, le-ltb}
-use Rattle.crate_record.specs.Lists.{pushFlag}
-use Rattle.crate_timings.specs.Established.{flag}
+use Rattle.crate_record.specs.Filling.{pushFlag}
+use Rattle.crate_timings.specs.Filling.{flag}
 use Rattle.crate_timings.proofs.list_if.Statement.{statement}
 use Rattle.crate_timings.proofs.list_if.Tie as tie
 

@@ -2,26 +2,28 @@
 use mathlib.Core.Path.{sym, ap, _∙_}
 use borrow.Author.Needs.{needs}
 use denote.Ref.{now}
-use Rattle.steps.specs.Laws.{step, SoFar}
-use Rattle.steps.specs.Steps.{got}
+use Rattle.steps.specs.Laws.{step, same-run, SoFar}
+use Rattle.steps.specs.Steps.{got, map}
 use Rattle.steps.specs.Leaves.{byte, word, ofByte, ofWord}
+use Rattle.shared_record.specs.Established.{establishedTimings}
 use Rattle.crate_timings.specs.Established.{established}
+use Rattle.crate_timings.specs.Filling.{fillEstablished, established-filled}
 use Rattle.crate_timings.proofs.take_established.Statement.{statement}
 use Rattle.crate_timings.proofs.take_established.Tie as tie
 
 -- what the program comes to after each read, from the function's start
 abbrev From : tie.Start → Type 0
-From b = SoFar established (now (b .args .s)) (b .args .c .at)
+From b = SoFar (map establishedTimings established) (now (b .args .s)) (b .args .c .at)
 
 abbrev after-ft : (c : tie.After-ft) → From (c .before .before .before .before)
-unfolding established
+unfolding fillEstablished
 after-ft c = (
   _,
-  step ofWord word _ _ _ (c .before .before .word .ensures) (c .ft .given .1),
+  same-run _ _ established-filled ∙ step ofWord word _ _ _ (c .before .before .word .ensures) (c .ft .given .1),
 )
 
 abbrev after-last : (c : tie.After-last) → From (c .before .before .before .before .before .before .before .before)
-unfolding established
+unfolding fillEstablished
 after-last c = (
   _,
   after-ft (c .before .before .before .before) .1
@@ -29,16 +31,16 @@ after-last c = (
 )
 
 returns : tie.Need-returns
-unfolding established
+unfolding fillEstablished
 returns c =
     record {
       answer = sym
-          (step ofWord word _ _ _ (c .before .before .before .before .word .ensures) (c .before .before .f .given .1));
+          (same-run _ _ established-filled ∙ step ofWord word _ _ _ (c .before .before .before .before .word .ensures) (c .before .before .f .given .1));
       filled = c .no-flags .ensures;
     }
 
 returns-2 : tie.Need-returns-2
-unfolding established
+unfolding fillEstablished
 returns-2 c =
     record {
       answer = sym
@@ -48,7 +50,7 @@ returns-2 c =
     }
 
 returns-3 : tie.Need-returns-3
-unfolding established
+unfolding fillEstablished
 returns-3 c =
     record {
       answer = ap (λ l. got l (c .before .before .last .given .0 .1 .0 .at)) (c .established-of .ensures)
