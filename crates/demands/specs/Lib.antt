@@ -3,3 +3,4 @@ pub mod Specimen
 pub mod Panels
 pub mod Cases
 pub mod Demands
+pub mod Standard

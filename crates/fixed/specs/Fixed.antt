@@ -9,6 +9,7 @@ use Prim.Native.Nat.{ℕ, zero, suc, _+_, _<_, _≤_, compare·suc-suc}
 use native.Mathlib.Omega.{arith}
 use lib.Dec.{ltb, isLe}
 use lib.ListN.{length, set, take}
+use lib.Seq.{take-all}
 use borrow.Author.Tests.{lt-ltb, le-ltb}
 
 module _ {ℓ} {A : Type ℓ} where
@@ -92,3 +93,7 @@ module _ {ℓ} {A : Type ℓ} where
   shown-pad zero d xs = refl
   shown-pad (suc n) d [] = refl
   shown-pad (suc n) d (x ∷ xs) = ap (λ (t : List A). x ∷ t) (shown-pad n d xs)
+
+  -- and all of xs, where it fits
+  pub shown-whole : (n : ℕ) (d : A) (xs : List A) → length xs ≤ n → take (count n xs) (pad n d xs) ≡ xs
+  shown-whole n d xs h = shown-pad n d xs ∙ take-all n xs h
