@@ -2,6 +2,7 @@
 use Prim.Native.Nat.{ℕ, _≤_}
 use mathlib.Core.Path.{_≡_, sym, ap, _∙_}
 use mathlib.Core.List.{List}
+use native.Mathlib.Omega.{arith}
 use Rattle.steps.specs.declared.Refusal.{Refusal}
 use Rattle.standard_record.specs.Filler.{blank}
 use Rattle.standard_record.specs.Seen.{seen, Same, holding}
@@ -37,11 +38,11 @@ spans-inside s e = rw (nothing-cut s e) (sounds s e)
 
 -- a refusal's number is 2 to 9
 pub refusal-2-to-9 : (s : List ℕ) (f : Refusal) → standardOf s .end ≡ Refused f → (2 ≤ f .number) × (f .number ≤ 9)
-refusal-2-to-9 s f e = let h = bounded s f e in (h .0, h .1)
+refusal-2-to-9 s f e = omega (arith, bounded s f e)
 
 -- its place is 0 to 127
 pub refused-inside : (s : List ℕ) (f : Refusal) → standardOf s .end ≡ Refused f → f .at ≤ 127
-refused-inside s f e = bounded s f e .2
+refused-inside s f e = omega (arith, bounded s f e)
 
 -- beside it stands the filler
 pub filler-beside-a-refusal : (s : List ℕ) (f : Refusal) → standardOf s .end ≡ Refused f → standardOf s .edid ≡ blank
