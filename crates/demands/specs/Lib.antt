@@ -1,6 +1,7 @@
--- What is shown of the definitions: worked cases, demand 3, and what else holds of every answer.
+-- What is shown of the definitions: worked cases, demand 3, and what else holds of every answer of either reading.
 pub mod Specimen
 pub mod Panels
 pub mod Cases
 pub mod Demands
 pub mod Spans
+pub mod Standard

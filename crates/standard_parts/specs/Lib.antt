@@ -1,6 +1,7 @@
--- What the contracts of `standard_parts` cite.
+-- What the contracts of `standard_parts` cite, and where a text ends.
 pub mod Head
 pub mod Color
 pub mod Timings
 pub mod Descriptors
 pub mod Text
+pub mod Ends

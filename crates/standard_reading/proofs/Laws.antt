@@ -1,13 +1,10 @@
 -- What the proof of the loop over the slots cites: a turn, a refusal, and the lists as the code holds them. Assumes nothing.
 use Prim.Native.Nat.{ℕ, zero, suc, _+_, _-_, _*_, _≤_, _<_}
-use mathlib.Core.Path.{_≡_, refl, ap, _∙_}
-use mathlib.Core.Bool.{Bool, true, false}
+use mathlib.Core.Path.{_≡_, ap, _∙_}
 use mathlib.Core.List.{List, _++_, append-assoc}
 use native.Mathlib.Numerals.{add-one}
 use native.Mathlib.Omega.{arith}
-use lib.Dec.{eqb}
 use lib.ListN.{length, length-append}
-use borrow.Author.Tests.{eqb-true}
 use Rattle.fixed.specs.Gather.{Holds, gather-more, held-at-most}
 use Rattle.steps.specs.declared.Refusal.{Refusal}
 use Rattle.standard_record.specs.Filler.{blankWhite, blankStandard, blankDetailed, blankHeld}
@@ -18,20 +15,11 @@ use Rattle.standard_record.specs.declared.Held.{Held}
 use Rattle.standard_record.specs.declared.Verdict.the-variants.{Accepted, Refused}
 use Rattle.standard_slots.specs.Said.{Said, refusal, pairsAt, lists}
 use Rattle.standard_slots.specs.Few.{pairs-at-most}
-use Rattle.standard_verdict.specs.Verdict.{refusedAt, _then_, beforeSlots}
+use Rattle.standard_verdict.specs.Verdict.{refusedAt, _then_}
 use Rattle.standard_reading.specs.Slots.{start, saidIn, judge, judged}
 use Rattle.standard_reading.specs.Block.{timingsOf, pairsOf, pointsOf, descriptorsOf}
 use Rattle.standard_reading.specs.Lists.{ListsOf}
 use Rattle.standard_reading.specs.Room.{timings-room, pairs-room, points-room, descriptors-room}
-
--- what is not refused before the slots has 128 bytes
-pub has-128 : (s : List ℕ) → beforeSlots s ≡ Accepted → length s ≡ 128
-unfolding beforeSlots
-has-128 s e = go (eqb (length s) 128) refl
-  where
-    go : (b : Bool) → eqb (length s) 128 ≡ b → length s ≡ 128
-    go true p = eqb-true _ _ p
-    go false p = let never = rw p at e in let z : _≡_ {A = ℕ} 0 1 = cc in absurd (omega arith)
 
 -- a refusal stays
 pub stays : (s : List ℕ) (f : Refusal) (n : ℕ) → judged s n ≡ Refused f → (k : ℕ) → judged s (k + n) ≡ Refused f

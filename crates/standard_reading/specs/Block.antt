@@ -5,9 +5,8 @@ use mathlib.Core.List.{List, _++_}
 use Rattle.bits.specs.Bytes.{_!_}
 use Rattle.fixed.specs.Gather.{gather}
 use Rattle.steps.specs.One.{one-value}
-use Rattle.shared_record.specs.Established.{establishedTimings}
 use Rattle.standard_record.specs.Filler.{blank}
-use Rattle.standard_record.specs.Lists.{whitePoints, standardTimings, detailedTimings, descriptors}
+use Rattle.standard_record.specs.Seen.{Seen, holding}
 use Rattle.standard_record.specs.declared.Verdict.{Verdict}
 use Rattle.standard_record.specs.declared.Verdict.the-variants.{Accepted, Refused}
 use Rattle.standard_record.specs.declared.StandardRecord.{StandardRecord}
@@ -42,20 +41,23 @@ descriptorsOf s n = gather (λ i. lists (saidIn s i) .descriptors) n
 
 -- ---- the record
 
-unfoldable pub recordOf : List ℕ → StandardRecord
-recordOf s = record {
+-- what the block says, in plain lists
+abbrev pub plain : List ℕ → Seen
+plain s = record {
   product = productIn s;
   version = versionIn s;
   display = displayIn s;
-  color = record { basic = colorsIn s; points = whitePoints (pointsOf s 4) };
-  timings = record {
-    established = establishedTimings (flagsIn s);
-    standard = standardTimings (pairsOf s 4);
-    detailed = detailedTimings (timingsOf s 4);
-  };
-  descriptors = descriptors (descriptorsOf s 4);
+  basic = colorsIn s;
+  points = pointsOf s 4;
+  established = flagsIn s;
+  standard = pairsOf s 4;
+  detailed = timingsOf s 4;
+  descriptors = descriptorsOf s 4;
   extensions = s ! 126;
 }
+
+unfoldable pub recordOf : List ℕ → StandardRecord
+recordOf s = holding (plain s)
 
 -- ---- the reading
 

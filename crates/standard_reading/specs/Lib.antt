@@ -2,4 +2,5 @@
 pub mod Slots
 pub mod Block
 pub mod Lists
+pub mod Judged
 pub mod Room

@@ -1,9 +1,10 @@
 -- `standard_reading::read_standard` meets its contract: each arm by what is judged before the slots. Assumes nothing.
 use mathlib.Core.Path.{sym, _∙_}
 use borrow.Author.Needs.{needs}
+use Rattle.standard_verdict.specs.Laws.{has-128}
 use Rattle.standard_reading.specs.Slots.{judged}
 use Rattle.standard_reading.specs.Block.{standardOf}
-use Rattle.standard_reading.proofs.Laws.{has-128, stays}
+use Rattle.standard_reading.proofs.Laws.{stays}
 use Rattle.standard_reading.proofs.read_standard.Statement.{statement}
 use Rattle.standard_reading.proofs.read_standard.Tie as tie
 

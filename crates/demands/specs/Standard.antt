@@ -1,0 +1,50 @@
+-- What holds of every answer of the standard reading, read off its definition.
+use Prim.Native.Nat.{ℕ, _≤_}
+use mathlib.Core.Path.{_≡_, sym, ap, _∙_}
+use mathlib.Core.List.{List}
+use native.Mathlib.Omega.{arith}
+use Rattle.steps.specs.declared.Refusal.{Refusal}
+use Rattle.standard_record.specs.Filler.{blank}
+use Rattle.standard_record.specs.Seen.{seen, Same, holding}
+use Rattle.standard_record.specs.declared.Verdict.the-variants.{Accepted, Refused}
+use Rattle.standard_slots.specs.Spans.{Sounds}
+use Rattle.standard_reading.specs.Block.{plain, recordOf, beside, standardOf}
+use Rattle.standard_reading.specs.Judged.{end-is-verdict, bounded, sounds}
+use Rattle.standard_reading.specs.Room.{accepted, nothing-cut}
+
+-- ---- an accepted block
+
+-- its record shows what the block says: nothing is dropped
+pub nothing-dropped : (s : List ℕ) → standardOf s .end ≡ Accepted → seen (standardOf s .edid) ≡ plain s
+nothing-dropped s e = nothing-cut s e
+
+-- each list of it is its entries, then the filler
+pub entries-then-filler : (s : List ℕ) → standardOf s .end ≡ Accepted → standardOf s .edid ≡ holding (seen (standardOf s .edid))
+entries-then-filler s e = accepted s e ∙ sym (ap holding (nothing-cut s e))
+
+-- so it is known by what it shows: two accepted readings whose records are the same are equal
+pub known-by-what-it-shows : (s t : List ℕ) → standardOf s .end ≡ Accepted → standardOf t .end ≡ Accepted
+    → Same (standardOf s .edid) (standardOf t .edid) → standardOf s ≡ standardOf t
+known-by-what-it-shows s t e h same =
+    let records = entries-then-filler s e ∙ ap holding same ∙ sym (entries-then-filler t h) in
+    let verdicts = e ∙ sym h in
+    λ i. record { edid = records i; end = verdicts i }
+
+-- every span of it lies before the last two bytes, 126 and 127; a text is at most 13 bytes, none of them 0x0a, with 0x0a behind fewer than 13
+pub spans-inside : (s : List ℕ) → standardOf s .end ≡ Accepted → Sounds s (seen (standardOf s .edid) .descriptors) 126
+spans-inside s e = rw (nothing-cut s e) (sounds s e)
+
+-- ---- a refused block
+
+-- a refusal's number is 2 to 9
+pub refusal-2-to-9 : (s : List ℕ) (f : Refusal) → standardOf s .end ≡ Refused f → (2 ≤ f .number) × (f .number ≤ 9)
+refusal-2-to-9 s f e = omega (arith, bounded s f e)
+
+-- its place is 0 to 127
+pub refused-inside : (s : List ℕ) (f : Refusal) → standardOf s .end ≡ Refused f → f .at ≤ 127
+refused-inside s f e = omega (arith, bounded s f e)
+
+-- beside it stands the filler
+pub filler-beside-a-refusal : (s : List ℕ) (f : Refusal) → standardOf s .end ≡ Refused f → standardOf s .edid ≡ blank
+unfolding standardOf
+filler-beside-a-refusal s f e = ap (λ v. beside v (recordOf s) .edid) (sym (end-is-verdict s) ∙ e)
