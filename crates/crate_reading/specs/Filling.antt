@@ -17,7 +17,7 @@ use Rattle.crate_timings.specs.Established.{established}
 use Rattle.crate_timings.specs.Pairs.{pairs}
 use Rattle.crate_slots.specs.Slots.{slots, together, listsAfter}
 use Rattle.crate_slots.specs.declared.Lists.{Lists}
-use Rattle.crate_reading.specs.Reading.{parts, shown, reading}
+use Rattle.crate_reading.specs.Reading.{parts, plain, reading}
 
 -- the parts, with the timing information all in one place
 unfoldable pub edidOf : Front → EstablishedTimings → Lists → ℕ → EDID
@@ -51,7 +51,7 @@ kept : {A B C D : Type 0} (q : Steps D) (fix : D → A) (g : A → Steps C) (h :
 kept q fix g h k e = taken q h k e ∙ sym (then-then q (λ x. done (fix x)) g)
 
 pub reading-filled : reading ≡ fillReading
-unfolding reading parts shown fillReading edidOf listsAfter
+unfolding reading parts plain fillReading edidOf listsAfter
 reading-filled =
     taken front _ _ (λ f. kept established establishedTimings _ _ _
     (λ e. kept (pairs 8) standardTimings _ _ _

@@ -17,16 +17,16 @@ use Rattle.crate_timings.specs.Pairs.{pairs}
 use Rattle.crate_timings.specs.Lengths.{ends-established, ends-pairs}
 use Rattle.crate_slots.specs.Slots.{slots, together}
 use Rattle.crate_slots.specs.Lengths.{Four, ends-slots}
-use Rattle.crate_reading.specs.Reading.{Parts, parts, shown, reading, answer}
+use Rattle.crate_reading.specs.Reading.{Parts, parts, plain, reading, answer}
 
 -- of the parts p, from m bytes
 pub record Read (p : Parts) (m : ℕ) : Type 0 where
   pub least : 88 ≤ m
   pub most : m ≤ 142
-  pub fits : Fits (shown p)
+  pub fits : Fits (plain p)
 
 ends-parts : Ends Read parts
-unfolding parts shown
+unfolding parts plain
 ends-parts =
     ends-then front _ (λ f m. (35 ≤ m) × (m ≤ 35)) _ takes-front
     (λ f m q. ends-then established _ (λ xs k. (length xs ≤ 17) × (k ≡ 3)) _ ends-established
@@ -49,15 +49,15 @@ pub ends-reading : Ends (λ e m. Unit) reading
 unfolding reading
 ends-reading = ends-then parts _ Read _ ends-parts (λ p m r. tt)
 
-parted : (o : Outcome Parts) (e : EDID) (n : ℕ) → andThen o (λ p m. got (holding (shown p)) m) ≡ got e n
-    → (p : Parts) × (o ≡ got p n) × (e ≡ holding (shown p))
+parted : (o : Outcome Parts) (e : EDID) (n : ℕ) → andThen o (λ p m. got (holding (plain p)) m) ≡ got e n
+    → (p : Parts) × (o ≡ got p n) × (e ≡ holding (plain p))
 parted (got p m) e n h = (p, (cc), (cc))
 parted (refused k m) e n h = let z : _≡_ {A = ℕ} 0 1 = cc in absurd (omega arith)
 
 -- a record is that of the parts read
-pub parts-of : (s : List ℕ) (e : EDID) (n : ℕ) → answer s ≡ got e n → (p : Parts) × (run parts s 0 ≡ got p n) × (e ≡ holding (shown p))
+pub parts-of : (s : List ℕ) (e : EDID) (n : ℕ) → answer s ≡ got e n → (p : Parts) × (run parts s 0 ≡ got p n) × (e ≡ holding (plain p))
 unfolding reading
-parts-of s e n h = parted (run parts s 0) e n (sym (run-bind parts (λ p. done (holding (shown p))) s 0) ∙ h)
+parts-of s e n h = parted (run parts s 0) e n (sym (run-bind parts (λ p. done (holding (plain p))) s 0) ∙ h)
 
 pub read-of : (s : List ℕ) (p : Parts) (n : ℕ) → run parts s 0 ≡ got p n → Read p n
 read-of s p n h =

@@ -29,9 +29,9 @@ parts = do
   n ← byte
   done (record { front = f; established = e; eight = a; slots = xs; extensions = n })
 
--- what is to be shown of it, list by list
-unfoldable pub shown : Parts → Seen
-shown p = record {
+-- what is to be plain of it, list by list
+unfoldable pub plain : Parts → Seen
+plain p = record {
   product = p .front .product;
   version = p .front .version;
   display = p .front .display;
@@ -46,7 +46,7 @@ shown p = record {
 
 -- the record holds each list in an array
 unfoldable pub reading : Steps EDID
-reading = map (λ p. holding (shown p)) parts
+reading = map (λ p. holding (plain p)) parts
 
 -- what the reading answers on the bytes s
 abbrev pub answer : List ℕ → Outcome EDID

@@ -17,7 +17,7 @@ use Rattle.crate_text.specs.Text.{scan, padding, skip, span, text}
 use Rattle.crate_detailed.specs.Detailed.{syncOf, fitted, axes, timingOf, timed, detailed}
 use Rattle.crate_descriptors.specs.Descriptors.{spaces, closing, pointOf, point, ended, second, points, white, stringOf, string, rawOf, raw, tagged, descriptor}
 use Rattle.crate_slots.specs.Slots.{later, slots}
-use Rattle.crate_reading.specs.Reading.{parts, shown, reading, answer}
+use Rattle.crate_reading.specs.Reading.{parts, plain, reading, answer}
 use Rattle.tags.specs.Tags.{tagOf}
 use Rattle.standard_record.specs.Filler.{blank}
 use Rattle.standard_record.specs.declared.StandardReading.{StandardReading}
@@ -97,5 +97,5 @@ cases =
     standard-reads rangeBlock rangeShows ∷ []
 
 pub cases-hold : Hold cases
-unfolding cases shortest longest six fullBlock rangeBlock showing specimenShows fullShows rangeShows specimen lobby specimenWith named byte word long header maker date product version inputOf input sizeOf gammaFrom dpmsOf dpms display color front flagsBy established standardTimingOf pairOf pair pairs scan padding skip span text syncOf fitted axes timingOf timed detailed spaces closing pointOf point ended second points white stringOf string rawOf raw tagged descriptor later slots parts shown reading tagOf standardOf beforeSlots judged recordOf said pointAt rangeIn timingIn productIn colorsIn inputBy imageOf gammaOf featuresOf pointBy flagsOf pairBy secondaryOf closingRefusal rangeRefusal blank backPorch acrossOf downOf ofBits ofInt add div
+unfolding cases shortest longest six fullBlock rangeBlock showing specimenShows fullShows rangeShows specimen lobby specimenWith named byte word long header maker date product version inputOf input sizeOf gammaFrom dpmsOf dpms display color front flagsBy established standardTimingOf pairOf pair pairs scan padding skip span text syncOf fitted axes timingOf timed detailed spaces closing pointOf point ended second points white stringOf string rawOf raw tagged descriptor later slots parts plain reading tagOf standardOf beforeSlots judged recordOf said pointAt rangeIn timingIn productIn colorsIn inputBy imageOf gammaOf featuresOf pointBy flagsOf pairBy secondaryOf closingRefusal rangeRefusal blank backPorch acrossOf downOf ofBits ofInt add div
 cases-hold = (refl, (refl, (refl, (refl, (refl, (refl, (refl, (refl, (refl, (refl, (refl, (refl, (refl, (refl, (refl, (refl, (refl, (refl, (refl, (refl, (refl, (refl, (refl, (refl, (refl, tt)))))))))))))))))))))))))

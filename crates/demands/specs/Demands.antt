@@ -9,7 +9,7 @@ use Rattle.steps.specs.Steps.{got, refused, run}
 use Rattle.steps.specs.Answers.{taken, within, Enough, cut-short, same-start, out-at-end, numbered}
 use Rattle.crate_record.specs.Seen.{seen, Same, holding, shows}
 use Rattle.crate_record.specs.declared.EDID.{EDID}
-use Rattle.crate_reading.specs.Reading.{Parts, parts, shown, reading, answer}
+use Rattle.crate_reading.specs.Reading.{Parts, parts, plain, reading, answer}
 use Rattle.crate_reading.specs.Lengths.{ends-reading, parts-of, read-of}
 use Rattle.demands.specs.Cases.{shortest, longest, cases, cases-hold}
 
@@ -41,16 +41,16 @@ a-record-of-142-bytes = (_, cases-hold .1 .0)
 -- ---- records
 
 -- no entry is dropped: a record shows all that was read, list by list
-pub nothing-dropped : (s : List ℕ) (e : EDID) (n : ℕ) → answer s ≡ got e n → (p : Parts) × (run parts s 0 ≡ got p n) × (seen e ≡ shown p)
+pub nothing-dropped : (s : List ℕ) (e : EDID) (n : ℕ) → answer s ≡ got e n → (p : Parts) × (run parts s 0 ≡ got p n) × (seen e ≡ plain p)
 nothing-dropped s e n h =
     let q = parts-of s e n h in
-    (q .0, q .1, ap seen (q .2) ∙ shows (shown (q .0)) (read-of s (q .0) n (q .1) .fits))
+    (q .0, q .1, ap seen (q .2) ∙ shows (plain (q .0)) (read-of s (q .0) n (q .1) .fits))
 
 -- each list of a record is its entries, then the filler
 pub entries-then-filler : (s : List ℕ) (e : EDID) (n : ℕ) → answer s ≡ got e n → e ≡ holding (seen e)
 entries-then-filler s e n h =
     let q = parts-of s e n h in
-    let r = shows (shown (q .0)) (read-of s (q .0) n (q .1) .fits) in
+    let r = shows (plain (q .0)) (read-of s (q .0) n (q .1) .fits) in
     q .2 ∙ sym (ap holding (ap seen (q .2) ∙ r))
 
 -- so a record is known by what it shows

@@ -11,6 +11,7 @@ use borrow.Author.Tests.{eqb-true, eqb-false}
 use Rattle.steps.specs.Steps.{done, _>>=_, got}
 use Rattle.steps.specs.Leaves.{byte, word}
 use Rattle.steps.specs.Meets.{Meets, Gives, meets, meets-map, meets-then, meets-after, meets-on, meets-if, meets-ensured, meets-ends}
+use Rattle.steps.specs.Spans.{Inside, Text}
 use Rattle.steps.specs.declared.Span.{Span}
 use Rattle.crate_text.specs.Text.{scan, padding, skip, span, text}
 use Rattle.crate_text.specs.Lengths.{takes-padding, takes-skip}
@@ -34,19 +35,10 @@ use Rattle.crate_descriptors.specs.declared.Points.the-variants.{One, Two}
 use Rattle.crate_descriptors.specs.declared.Slot.{Slot}
 use Rattle.crate_descriptors.specs.declared.Slot.the-variants.{Nothing, Described, White, Six}
 use Rattle.crate_slots.specs.Slots.{Said, saidBy, saidFirst, saidLater, later, slots, lists, together}
-use Rattle.crate_reading.specs.Reading.{Parts, parts, shown, answer}
+use Rattle.crate_reading.specs.Reading.{Parts, parts, plain, answer}
 use Rattle.demands.specs.Demands.{nothing-dropped}
 
--- ---- what is said of a span, of a descriptor, and of all of them, at the place n
-
-abbrev pub Inside : Span → ℕ → Type 0
-Inside t n = t .start + t .len ≤ n
-
-pub record Text (s : List ℕ) (t : Span) (n : ℕ) : Type 0 where
-  pub inside : t .start + t .len ≤ n
-  pub short : t .len ≤ 13
-  pub clean : (i : ℕ) → i < t .len → getD s (t .start + i) 0 ≡ 0x0a → ⊥
-  pub behind : t .len < 13 → (t .start + t .len < n) × (getD s (t .start + t .len) 0 ≡ 0x0a)
+-- ---- what is said of a descriptor, and of all of them, at the place n
 
 abbrev pub SoundSecond : SecondaryTiming → ℕ → Type 0
 SoundSecond Second.None n = Unit
@@ -279,7 +271,7 @@ meets-parts s at =
 
 -- every span of the record's descriptors lies inside the n bytes taken; a text is as said above
 pub spans-inside : (s : List ℕ) (e : EDID) (n : ℕ) → answer s ≡ got e n → Sounds s (seen e .descriptors) n
-unfolding shown
+unfolding plain
 spans-inside s e n h =
     let q = nothing-dropped s e n h in
     let r : SoundParts s (q .0) n = subst (Gives (SoundParts s)) (q .1) (meets s (SoundParts s) parts 0 (meets-parts s 0)) in

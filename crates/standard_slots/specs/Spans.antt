@@ -7,7 +7,7 @@ use lib.Dec.{eqb, ltb}
 use lib.ListN.{length, length-take, length-drop}
 use lib.Seq.{getD-take, getD-drop}
 use Rattle.bits.specs.Bytes.{_!_, part}
-use Rattle.steps.specs.declared.Span.{Span}
+use Rattle.steps.specs.Spans.{Inside, Text}
 use Rattle.standard_record.specs.declared.Held.{Held}
 use Rattle.standard_record.specs.declared.Descriptor.{Descriptor}
 use Rattle.standard_record.specs.declared.SecondaryTiming.{SecondaryTiming}
@@ -16,17 +16,7 @@ use Rattle.standard_parts.specs.Ends.{ends}
 use Rattle.standard_slots.specs.Said.{lists, textIn, rangeIn, rawOf, said}
 use Rattle.standard_slots.specs.Each.{either, each}
 
--- ---- what is said of a span, of a descriptor, and of all of them, before the place n
-
-abbrev pub Inside : Span → ℕ → Type 0
-Inside t n = t .start + t .len ≤ n
-
--- at most 13 bytes, none of them 0x0a; behind fewer than 13 stands 0x0a
-pub record Text (s : List ℕ) (t : Span) (n : ℕ) : Type 0 where
-  pub inside : t .start + t .len ≤ n
-  pub short : t .len ≤ 13
-  pub clean : (i : ℕ) → i < t .len → s ! (t .start + i) ≡ 0x0a → ⊥
-  pub behind : t .len < 13 → (t .start + t .len < n) × (s ! (t .start + t .len) ≡ 0x0a)
+-- ---- what is said of a descriptor, and of all of them, before the place n
 
 abbrev pub SoundSecond : SecondaryTiming → ℕ → Type 0
 SoundSecond SecondaryTiming.None n = Unit
