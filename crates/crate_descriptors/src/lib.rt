@@ -3,7 +3,7 @@ use crate_record::Limits;
 use crate_record::MonitorDescriptor;
 use crate_record::SecondaryTiming;
 use crate_record::WhitePoint;
-use crate_text::PadRead;
+use crate_text::PassRead;
 use crate_text::TextRead;
 use steps::ByteRead;
 use steps::Cursor;
@@ -15,7 +15,7 @@ use steps::WordRead;
 use tags::Tag;
 ghost use mathlib.Core.Path.{_≡_};
 ghost use Rattle.steps.specs.Steps.{run};
-ghost use Rattle.crate_text.specs.Answers.{ofPad};
+ghost use Rattle.crate_text.specs.Answers.{ofPass};
 ghost use Rattle.crate_descriptors.specs.Descriptors.{spaces, closing, pointOf, point, ended, second, points, white, gtfOf, gtf, none, other, secondary, limitsOf, range, stringOf, string, rawOf, raw, tagged, descriptor};
 ghost use Rattle.crate_descriptors.specs.Answers.{ofPoint, ofPoints, ofSecondary, ofSlot};
 
@@ -54,44 +54,44 @@ pub enum SlotRead {
 }
 
 // n words of 0x2020.
-fn take_spaces(c: Cursor, s: &[u8], n: usize) -> PadRead
-    ensures { λ r. ⌜ ofPad r ≡ run (spaces n) (now (s .entry)) (c .at) ⌝ }
+fn take_spaces(c: Cursor, s: &[u8], n: usize) -> PassRead
+    ensures { λ r. ⌜ ofPass r ≡ run (spaces n) (now (s .entry)) (c .at) ⌝ }
 {
     let mut c = c;
     let mut i = 0;
     while i < n {
         let w = match c.word(s) {
-            WordRead::Refused(f) => return PadRead::Refused(f),
+            WordRead::Refused(f) => return PassRead::Refused(f),
             WordRead::Got(w, next) => {
                 c = next;
                 w
             }
         };
         if w != 0x2020 {
-            return PadRead::Refused(Refusal {
+            return PassRead::Refused(Refusal {
                 number: 5,
                 at: c.at,
             });
         }
         i += 1;
     }
-    PadRead::Got(c)
+    PassRead::Got(c)
 }
 
 // 0x0a, and n words of 0x2020.
-pub fn take_closing(c: Cursor, s: &[u8], n: usize) -> PadRead
-    ensures { λ r. ⌜ ofPad r ≡ run (closing n) (now (s .entry)) (c .at) ⌝ }
+pub fn take_closing(c: Cursor, s: &[u8], n: usize) -> PassRead
+    ensures { λ r. ⌜ ofPass r ≡ run (closing n) (now (s .entry)) (c .at) ⌝ }
 {
     let mut c = c;
     let b = match c.byte(s) {
-        ByteRead::Refused(f) => return PadRead::Refused(f),
+        ByteRead::Refused(f) => return PassRead::Refused(f),
         ByteRead::Got(b, next) => {
             c = next;
             b
         }
     };
     if b != 0x0a {
-        return PadRead::Refused(Refusal {
+        return PassRead::Refused(Refusal {
             number: 4,
             at: c.at,
         });
@@ -127,8 +127,8 @@ fn take_ended(c: Cursor, s: &[u8], ps: Points) -> PointsRead
     ensures { λ r. ⌜ ofPoints r ≡ run (ended ps) (now (s .entry)) (c .at) ⌝ }
 {
     match crate_text::take_skip(c, s, 5) {
-        PadRead::Refused(f) => PointsRead::Refused(f),
-        PadRead::Got(next) => PointsRead::Got(ps, next),
+        PassRead::Refused(f) => PointsRead::Refused(f),
+        PassRead::Got(next) => PointsRead::Got(ps, next),
     }
 }
 
@@ -183,8 +183,8 @@ fn take_white(c: Cursor, s: &[u8]) -> SlotRead
         }
     };
     match take_closing(c, s, 1) {
-        PadRead::Refused(f) => SlotRead::Refused(f),
-        PadRead::Got(next) => SlotRead::Got(Slot::White(ps), next),
+        PassRead::Refused(f) => SlotRead::Refused(f),
+        PassRead::Got(next) => SlotRead::Got(Slot::White(ps), next),
     }
 }
 
@@ -194,8 +194,8 @@ fn gtf_of(start: u8, c: u8, m: u16, k: u8, j: u8) -> SecondaryTiming
     SecondaryTiming::GTF {
         start: start as u32 * 2000,
         c: crate_record::half_of(c),
-        m: crate_record::whole_of(m),
-        k: crate_record::centimetres(k),
+        m: crate_record::whole_of16(m),
+        k: crate_record::whole_of(k),
         j: crate_record::half_of(j),
     }
 }
@@ -233,8 +233,8 @@ fn take_none(c: Cursor, s: &[u8]) -> SecondaryRead
     ensures { λ r. ⌜ ofSecondary r ≡ run none (now (s .entry)) (c .at) ⌝ }
 {
     match take_closing(c, s, 3) {
-        PadRead::Refused(f) => SecondaryRead::Refused(f),
-        PadRead::Got(next) => SecondaryRead::Got(SecondaryTiming::None, next),
+        PassRead::Refused(f) => SecondaryRead::Refused(f),
+        PassRead::Got(next) => SecondaryRead::Got(SecondaryTiming::None, next),
     }
 }
 

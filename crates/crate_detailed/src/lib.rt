@@ -13,8 +13,9 @@ use timing::Across;
 use timing::AcrossRead;
 use timing::Down;
 use timing::DownRead;
+ghost use Prim.Native.Nat.{ℕ};
 ghost use mathlib.Core.Path.{_≡_};
-ghost use mathlib.Core.List.{[]};
+ghost use mathlib.Core.List.{List};
 ghost use Rattle.steps.specs.Steps.{run};
 ghost use Rattle.crate_detailed.specs.Detailed.{lineOf, syncBy, syncOf, inTenths, fitted, axes, timingOf, timed, detailed};
 ghost use Rattle.crate_detailed.specs.Answers.{ofAxes, ofDetailed};
@@ -88,9 +89,9 @@ fn in_tenths(mm: timing::Size) -> ImageSize
     }
 }
 
-// Refusal 6 where either axis has no room for its back porch.
+// Refusal 6 where either axis has no room for its back porch. No byte is taken, so the input can be any.
 fn axes_by(across: AcrossRead, down: DownRead, c: Cursor) -> AxesRead
-    ensures { λ r. ⌜ ofAxes r ≡ run (fitted across down) [] (c .at) ⌝ }
+    ensures { λ r. ⌜ ((s : List ℕ) → ofAxes r ≡ run (fitted across down) s (c .at)) ⌝ }
 {
     let six = Refusal {
         number: 6,

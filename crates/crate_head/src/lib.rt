@@ -241,8 +241,8 @@ fn size_of(width: u8, height: u8) -> MaxSize
         return MaxSize::None;
     }
     MaxSize::Some(ImageSize {
-        width: crate_record::centimetres(width),
-        height: crate_record::centimetres(height),
+        width: crate_record::whole_of(width),
+        height: crate_record::whole_of(height),
     })
 }
 

@@ -6,7 +6,7 @@ use native.Mathlib.Omega.{arith}
 use lib.ListN.{length, take, drop, length-append}
 use Rattle.page.specs.Page.{page, _▷_}
 use Rattle.page.specs.Words.{flat}
-use Rattle.page.specs.Lengths.{field-length, field16-length, field8-length, float-length, first-length}
+use Rattle.page.specs.Short.{field-length, field16-length, field8-length, float-length, first-length}
 use Rattle.shared_lines.specs.Short.{numbers-length, version-length, flags-length, digital-length, dpms-length, established-length, extensions-length, refuse-length}
 use Rattle.page.specs.Meaning.{whole, only}
 use Rattle.steps.specs.declared.Cursor.{Cursor}

@@ -355,10 +355,18 @@ pub fn blank_edid() -> EDID
 
 // ---- numbers made of bytes
 
-pub fn centimetres(v: u8) -> f32
+// A byte as it is.
+pub fn whole_of(v: u8) -> f32
     ensures { λ r. ⌜ r ≡ whole v ⌝ }
 {
     v as f32
+}
+
+// 16 bits as they are.
+pub fn whole_of16(n: u16) -> f32
+    ensures { λ r. ⌜ r ≡ whole n ⌝ }
+{
+    n as f32
 }
 
 pub fn gamma_of(v: u8) -> f32
@@ -390,13 +398,6 @@ pub fn half_of(v: u8) -> f32
     ensures { λ r. ⌜ r ≡ halfOf v ⌝ }
 {
     v as f32 / 2.0
-}
-
-// 16 bits as they are.
-pub fn whole_of(n: u16) -> f32
-    ensures { λ r. ⌜ r ≡ whole n ⌝ }
-{
-    n as f32
 }
 
 pub fn ratio_of(code: u8) -> f32

@@ -4,7 +4,7 @@ use mathlib.Core.List.{List}
 use native.Mathlib.Omega.{arith}
 use lib.ListN.{length, length-append}
 use Rattle.page.specs.Words.{text, flat}
-use Rattle.page.specs.Lengths.{field32-length, flag-length, float-length, first-length}
+use Rattle.page.specs.Short.{field32-length, flag-length, float-length, first-length}
 use Rattle.shared_lines.specs.Short.{axes-length, border-length, polarity-length, text-length, raw-length, run-length, limits-length}
 use Rattle.crate_record.specs.declared.SyncLine.the-variants.{RGB, Green, Digital}
 use Rattle.crate_record.specs.declared.SyncType.{SyncType}

@@ -9,7 +9,7 @@ use crate_record::Held;
 use crate_record::MonitorDescriptors;
 use crate_record::StandardTimings;
 use crate_record::WhitePoints;
-use crate_text::PadRead;
+use crate_text::PassRead;
 use crate_timings::Pair;
 use crate_timings::PairRead;
 use steps::Cursor;
@@ -140,8 +140,8 @@ pub fn take_descriptors(c: Cursor, s: &[u8], a: StandardTimings) -> ListsRead
                             k += 1;
                         }
                         match crate_descriptors::take_closing(c, s, 0) {
-                            PadRead::Refused(f) => return refuse(f),
-                            PadRead::Got(next) => c = next,
+                            PassRead::Refused(f) => return refuse(f),
+                            PassRead::Got(next) => c = next,
                         }
                     }
                 }

@@ -6,8 +6,8 @@ use Rattle.steps.specs.One.{OneAnswer, one-answer}
 use Rattle.steps.specs.declared.Span.{Span}
 use Rattle.crate_text.specs.declared.ScanRead.{ScanRead}
 use Rattle.crate_text.specs.declared.ScanRead.the-variants as Scan
-use Rattle.crate_text.specs.declared.PadRead.{PadRead}
-use Rattle.crate_text.specs.declared.PadRead.the-variants as Pad
+use Rattle.crate_text.specs.declared.PassRead.{PassRead}
+use Rattle.crate_text.specs.declared.PassRead.the-variants as Pass
 use Rattle.crate_text.specs.declared.TextRead.{TextRead}
 use Rattle.crate_text.specs.declared.TextRead.the-variants as Text
 
@@ -15,9 +15,9 @@ abbrev pub ofScan : ScanRead → Outcome ℕ
 ofScan (Scan.Got v c) = got v (c .at)
 ofScan (Scan.Refused f) = refused (f .number) (f .at)
 
-abbrev pub ofPad : PadRead → Outcome Unit
-ofPad (Pad.Got c) = got tt (c .at)
-ofPad (Pad.Refused f) = refused (f .number) (f .at)
+abbrev pub ofPass : PassRead → Outcome Unit
+ofPass (Pass.Got c) = got tt (c .at)
+ofPass (Pass.Refused f) = refused (f .number) (f .at)
 
 abbrev pub ofText : TextRead → Outcome Span
 ofText (Text.Got v c) = got v (c .at)
@@ -34,16 +34,16 @@ one-scan = one-answer ofScan to back
     back (Scan.Got v c) = refl
     back (Scan.Refused f) = refl
 
-pub one-pad : OneAnswer ofPad
-one-pad = one-answer ofPad to back
+pub one-pass : OneAnswer ofPass
+one-pass = one-answer ofPass to back
   where
-    to : Outcome Unit → PadRead
-    to (got tt n) = Pad.Got (record { at = n })
-    to (refused k n) = Pad.Refused (record { number = k; at = n })
+    to : Outcome Unit → PassRead
+    to (got tt n) = Pass.Got (record { at = n })
+    to (refused k n) = Pass.Refused (record { number = k; at = n })
 
-    back : (r : PadRead) → to (ofPad r) ≡ r
-    back (Pad.Got c) = refl
-    back (Pad.Refused f) = refl
+    back : (r : PassRead) → to (ofPass r) ≡ r
+    back (Pass.Got c) = refl
+    back (Pass.Refused f) = refl
 
 pub one-text : OneAnswer ofText
 one-text = one-answer ofText to back

@@ -7,14 +7,15 @@ ghost use mathlib.Core.Path.{_≡_};
 ghost use Prim.Native.Nat.{_-_};
 ghost use Rattle.steps.specs.Steps.{run};
 ghost use Rattle.crate_text.specs.Text.{scan, padding, text, skip, span};
-ghost use Rattle.crate_text.specs.Answers.{ofScan, ofPad, ofText};
+ghost use Rattle.crate_text.specs.Answers.{ofScan, ofPass, ofText};
 
 pub enum ScanRead {
     Got(usize, Cursor),
     Refused(Refusal),
 }
 
-pub enum PadRead {
+// Bytes that were passed, and leave no value.
+pub enum PassRead {
     Got(Cursor),
     Refused(Refusal),
 }
@@ -50,46 +51,46 @@ fn take_scan(c: Cursor, s: &[u8]) -> ScanRead
 }
 
 // What follows a text of n bytes within the 13.
-fn take_padding(c: Cursor, s: &[u8], n: usize) -> PadRead
-    ensures { λ r. ⌜ ofPad r ≡ run (padding (12 - n)) (now (s .entry)) (c .at) ⌝ }
+fn take_padding(c: Cursor, s: &[u8], n: usize) -> PassRead
+    ensures { λ r. ⌜ ofPass r ≡ run (padding (12 - n)) (now (s .entry)) (c .at) ⌝ }
 {
     let mut c = c;
     let mut k = n;
     while k < 12 {
         let b = match c.byte(s) {
-            ByteRead::Refused(f) => return PadRead::Refused(f),
+            ByteRead::Refused(f) => return PassRead::Refused(f),
             ByteRead::Got(b, next) => {
                 c = next;
                 b
             }
         };
         if b != 0x20 {
-            return PadRead::Refused(Refusal {
+            return PassRead::Refused(Refusal {
                 number: 5,
                 at: c.at,
             });
         }
         k += 1;
     }
-    PadRead::Got(c)
+    PassRead::Got(c)
 }
 
 // One test for all n bytes: a skipped byte is not looked at.
-pub fn take_skip(c: Cursor, s: &[u8], n: usize) -> PadRead
-    ensures { λ r. ⌜ ofPad r ≡ run (skip n) (now (s .entry)) (c .at) ⌝ }
+pub fn take_skip(c: Cursor, s: &[u8], n: usize) -> PassRead
+    ensures { λ r. ⌜ ofPass r ≡ run (skip n) (now (s .entry)) (c .at) ⌝ }
 {
     let at = c.at;
     let len = s.len();
     if n == 0 {
-        return PadRead::Got(c);
+        return PassRead::Got(c);
     }
     if len <= at {
-        return PadRead::Refused(Refusal { number: 1, at });
+        return PassRead::Refused(Refusal { number: 1, at });
     }
     if len - at < n {
-        return PadRead::Refused(Refusal { number: 1, at: len });
+        return PassRead::Refused(Refusal { number: 1, at: len });
     }
-    PadRead::Got(Cursor { at: at + n })
+    PassRead::Got(Cursor { at: at + n })
 }
 
 pub fn take_span(c: Cursor, s: &[u8], n: usize) -> TextRead
@@ -97,8 +98,8 @@ pub fn take_span(c: Cursor, s: &[u8], n: usize) -> TextRead
 {
     let start = c.at;
     match take_skip(c, s, n) {
-        PadRead::Refused(f) => TextRead::Refused(f),
-        PadRead::Got(next) => TextRead::Got(Span { start, len: n }, next),
+        PassRead::Refused(f) => TextRead::Refused(f),
+        PassRead::Got(next) => TextRead::Got(Span { start, len: n }, next),
     }
 }
 
@@ -115,7 +116,7 @@ pub fn take_text(c: Cursor, s: &[u8]) -> TextRead
         }
     };
     match take_padding(c, s, len) {
-        PadRead::Refused(f) => TextRead::Refused(f),
-        PadRead::Got(next) => TextRead::Got(Span { start, len }, next),
+        PassRead::Refused(f) => TextRead::Refused(f),
+        PassRead::Got(next) => TextRead::Got(Span { start, len }, next),
     }
 }

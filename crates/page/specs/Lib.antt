@@ -4,4 +4,4 @@ pub mod Words
 pub mod Known
 pub mod Laws
 pub mod Meaning
-pub mod Lengths
+pub mod Short

@@ -5,7 +5,7 @@ use mathlib.Core.List.{List}
 use native.Mathlib.Omega.{arith}
 use lib.ListN.{length, drop, length-append}
 use Rattle.page.specs.Words.{hexOf2, field8, flat}
-use Rattle.page.specs.Lengths.{field-length, field32-length, field16-length, field8-length, flag-length, byte-length, first-length}
+use Rattle.page.specs.Short.{field-length, field32-length, field16-length, field8-length, flag-length, byte-length, first-length}
 use Rattle.steps.specs.declared.Refusal.{Refusal}
 use Rattle.steps.specs.declared.Span.{Span}
 use Rattle.timing.specs.declared.Across.{Across}

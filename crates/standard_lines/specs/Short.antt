@@ -7,7 +7,7 @@ use lib.Dec.{eqb}
 use lib.ListN.{length, take, drop, length-append}
 use Rattle.page.specs.Page.{page, _▷_}
 use Rattle.page.specs.Words.{flat}
-use Rattle.page.specs.Lengths.{either, field16-length, field8-length, first-length}
+use Rattle.page.specs.Short.{either, field16-length, field8-length, first-length}
 use Rattle.page.specs.Meaning.{whole, only}
 use Rattle.shared_lines.specs.Short.{numbers-length, version-length, flags-length, digital-length, dpms-length, established-length, extensions-length, refuse-length}
 use Rattle.standard_record.specs.declared.Product.{Product}

@@ -4,7 +4,7 @@ use mathlib.Core.List.{List}
 use native.Mathlib.Omega.{arith}
 use lib.ListN.{length, length-append}
 use Rattle.page.specs.Words.{text, flat}
-use Rattle.page.specs.Lengths.{field32-length, field16-length, field8-length, flag-length, first-length}
+use Rattle.page.specs.Short.{field32-length, field16-length, field8-length, flag-length, first-length}
 use Rattle.shared_lines.specs.Short.{axes-length, border-length, polarity-length, text-length, raw-length, run-length, limits-length}
 use Rattle.standard_record.specs.declared.Sync.{Sync}
 use Rattle.standard_record.specs.declared.Sync.the-variants.{AnalogComposite, BipolarAnalogComposite, DigitalComposite, DigitalSeparate}

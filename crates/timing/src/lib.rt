@@ -1,10 +1,10 @@
 // What both readings take from the bytes of a detailed timing: axes and porches, size, border, stereo, polarity.
 // Bytes are named by their place in the 18 of a timing: b2 is the third.
 ghost use mathlib.Core.Path.{_≡_};
-ghost use Rattle.timing.specs.Axis.{backPorch, acrossBy, acrossOf, downBy, downOf};
+ghost use Rattle.timing.specs.Axis.{backPorch, pixelsLeft, linesLeft, acrossOf, downOf};
 ghost use Rattle.timing.specs.Rest.{clockOf, sizeOf, borderOf, polarityOf, stereoBy, stereoOf};
 
-// A sum of pixels and lines does not compile: the two are different types.
+// A sum of pixels and lines does not compile: the two are different types, and what is computed of them is a method of each.
 pub struct Pixels(pub u16);
 
 pub struct Lines(pub u16);
@@ -24,9 +24,19 @@ pub struct Down {
     pub back: Lines,
 }
 
-// `Over`: sync and front porch exceed the blanking.
+// What is left of a blanking, in numbers, pixels and lines. `Over`: sync and front porch exceed it.
 enum BackPorch {
     Left(u16),
+    Over,
+}
+
+enum PixelsLeft {
+    Left(Pixels),
+    Over,
+}
+
+enum LinesLeft {
+    Left(Lines),
     Over,
 }
 
@@ -80,57 +90,64 @@ fn back_porch(blanking: u16, front: u16, sync: u16) -> BackPorch
     BackPorch::Left(rest - front)
 }
 
-fn across_by(active: Pixels, blanking: Pixels, front: Pixels, sync: Pixels) -> AcrossRead
-    ensures { λ r. ⌜ r ≡ acrossBy active blanking front sync ⌝ }
-{
-    match back_porch(blanking.0, front.0, sync.0) {
-        BackPorch::Over => AcrossRead::Over,
-        BackPorch::Left(back) => AcrossRead::Fits(Across {
-            active,
-            front,
-            sync,
-            back: Pixels(back),
-        }),
+impl Pixels {
+    // What sync and front porch leave of this blanking.
+    fn back_porch(self, front: Pixels, sync: Pixels) -> PixelsLeft
+        ensures { λ r. ⌜ r ≡ pixelsLeft (backPorch (self .0) (front .0) (sync .0)) ⌝ }
+    {
+        match back_porch(self.0, front.0, sync.0) {
+            BackPorch::Over => PixelsLeft::Over,
+            BackPorch::Left(n) => PixelsLeft::Left(Pixels(n)),
+        }
     }
 }
 
-fn down_by(active: Lines, blanking: Lines, front: Lines, sync: Lines) -> DownRead
-    ensures { λ r. ⌜ r ≡ downBy active blanking front sync ⌝ }
-{
-    match back_porch(blanking.0, front.0, sync.0) {
-        BackPorch::Over => DownRead::Over,
-        BackPorch::Left(back) => DownRead::Fits(Down {
-            active,
-            front,
-            sync,
-            back: Lines(back),
-        }),
+impl Lines {
+    // The same, of lines.
+    fn back_porch(self, front: Lines, sync: Lines) -> LinesLeft
+        ensures { λ r. ⌜ r ≡ linesLeft (backPorch (self .0) (front .0) (sync .0)) ⌝ }
+    {
+        match back_porch(self.0, front.0, sync.0) {
+            BackPorch::Over => LinesLeft::Over,
+            BackPorch::Left(n) => LinesLeft::Left(Lines(n)),
+        }
     }
 }
 
 pub fn across_of(b2: u8, b3: u8, b4: u8, b8: u8, b9: u8, b11: u8) -> AcrossRead
     ensures { λ r. ⌜ r ≡ acrossOf b2 b3 b4 b8 b9 b11 ⌝ }
 {
-    let active = bits::word(b2, bits::digits(b4, 4, 4));
-    let blanking = bits::word(b3, bits::digits(b4, 0, 4));
-    let front = bits::word(b8, bits::digits(b11, 6, 2));
-    let sync = bits::word(b9, bits::digits(b11, 4, 2));
-    across_by(
-        Pixels(active),
-        Pixels(blanking),
-        Pixels(front),
-        Pixels(sync),
-    )
+    let active = Pixels(bits::word(b2, bits::digits(b4, 4, 4)));
+    let blanking = Pixels(bits::word(b3, bits::digits(b4, 0, 4)));
+    let front = Pixels(bits::word(b8, bits::digits(b11, 6, 2)));
+    let sync = Pixels(bits::word(b9, bits::digits(b11, 4, 2)));
+    match blanking.back_porch(front, sync) {
+        PixelsLeft::Over => AcrossRead::Over,
+        PixelsLeft::Left(back) => AcrossRead::Fits(Across {
+            active,
+            front,
+            sync,
+            back,
+        }),
+    }
 }
 
 pub fn down_of(b5: u8, b6: u8, b7: u8, b10: u8, b11: u8) -> DownRead
     ensures { λ r. ⌜ r ≡ downOf b5 b6 b7 b10 b11 ⌝ }
 {
-    let active = bits::word(b5, bits::digits(b7, 4, 4));
-    let blanking = bits::word(b6, bits::digits(b7, 0, 4));
-    let front = bits::stack(bits::digits(b11, 2, 2), bits::digits(b10, 4, 4), 4);
-    let sync = bits::stack(bits::digits(b11, 0, 2), bits::digits(b10, 0, 4), 4);
-    down_by(Lines(active), Lines(blanking), Lines(front), Lines(sync))
+    let active = Lines(bits::word(b5, bits::digits(b7, 4, 4)));
+    let blanking = Lines(bits::word(b6, bits::digits(b7, 0, 4)));
+    let front = Lines(bits::stack(bits::digits(b11, 2, 2), bits::digits(b10, 4, 4), 4));
+    let sync = Lines(bits::stack(bits::digits(b11, 0, 2), bits::digits(b10, 0, 4), 4));
+    match blanking.back_porch(front, sync) {
+        LinesLeft::Over => DownRead::Over,
+        LinesLeft::Left(back) => DownRead::Fits(Down {
+            active,
+            front,
+            sync,
+            back,
+        }),
+    }
 }
 
 // In Hz, from the stored word of 10 kHz.

@@ -8,7 +8,7 @@ use Rattle.crate_descriptors.proofs.gtf_of.Tie as tie
 
 returns : tie.Need-returns
 unfolding gtfOf
-returns c = λ i. GTF (c .before .before .before .before .args .start * 2000) (c .before .before .before .half-of .ensures i) (c .before .before .whole-of .ensures i) (c .before .centimetres .ensures i) (c .half-of2 .ensures i)
+returns c = λ i. GTF (c .before .before .before .before .args .start * 2000) (c .before .before .before .half-of .ensures i) (c .before .before .whole-of16 .ensures i) (c .before .whole-of .ensures i) (c .half-of2 .ensures i)
 
 pub gtf-of-spec : {M : Type 1} → statement M
 gtf-of-spec =

@@ -4,7 +4,7 @@ use borrow.Author.Needs.{needs}
 use denote.Ref.{now}
 use Rattle.steps.specs.Laws.{step, SoFar}
 use Rattle.crate_text.specs.Text.{skip}
-use Rattle.crate_text.specs.Answers.{ofPad}
+use Rattle.crate_text.specs.Answers.{ofPass}
 use Rattle.crate_descriptors.specs.Descriptors.{ended}
 use Rattle.crate_descriptors.proofs.take_ended.Statement.{statement}
 use Rattle.crate_descriptors.proofs.take_ended.Tie as tie
@@ -17,14 +17,14 @@ abbrev after-next : (c : tie.After-next) → From (c .before .before .before .be
 unfolding ended
 after-next c = (
   _,
-  step ofPad (skip 5) _ _ _ (c .before .before .take-skip .ensures) (c .next .given .1),
+  step ofPass (skip 5) _ _ _ (c .before .before .take-skip .ensures) (c .next .given .1),
 )
 
 returns : tie.Need-returns
 unfolding ended
 returns c =
     sym
-    (step ofPad (skip 5) _ _ _ (c .before .before .before .take-skip .ensures) (c .before .f .given .1))
+    (step ofPass (skip 5) _ _ _ (c .before .before .before .take-skip .ensures) (c .before .f .given .1))
 
 returns-2 : tie.Need-returns-2
 unfolding ended

@@ -3,7 +3,7 @@ use mathlib.Core.Path.{sym}
 use borrow.Author.Needs.{needs}
 use denote.Ref.{now}
 use Rattle.steps.specs.Laws.{step, SoFar}
-use Rattle.crate_text.specs.Answers.{ofPad}
+use Rattle.crate_text.specs.Answers.{ofPass}
 use Rattle.crate_descriptors.specs.Descriptors.{closing, none}
 use Rattle.crate_descriptors.proofs.take_none.Statement.{statement}
 use Rattle.crate_descriptors.proofs.take_none.Tie as tie
@@ -16,14 +16,14 @@ abbrev after-next : (c : tie.After-next) → From (c .before .before .before .be
 unfolding none
 after-next c = (
   _,
-  step ofPad (closing 3) _ _ _ (c .before .before .take-closing .ensures) (c .next .given .1),
+  step ofPass (closing 3) _ _ _ (c .before .before .take-closing .ensures) (c .next .given .1),
 )
 
 returns : tie.Need-returns
 unfolding none
 returns c =
     sym
-    (step ofPad (closing 3) _ _ _ (c .before .before .before .take-closing .ensures) (c .before .f .given .1))
+    (step ofPass (closing 3) _ _ _ (c .before .before .before .take-closing .ensures) (c .before .f .given .1))
 
 returns-2 : tie.Need-returns-2
 unfolding none

@@ -3,7 +3,7 @@ use mathlib.Core.Path.{sym, _∙_}
 use borrow.Author.Needs.{needs}
 use denote.Ref.{now}
 use Rattle.steps.specs.Laws.{step, SoFar}
-use Rattle.crate_text.specs.Answers.{ofPad}
+use Rattle.crate_text.specs.Answers.{ofPass}
 use Rattle.crate_descriptors.specs.Descriptors.{closing, points, white}
 use Rattle.crate_descriptors.specs.Answers.{ofPoints}
 use Rattle.crate_descriptors.proofs.take_white.Statement.{statement}
@@ -25,7 +25,7 @@ unfolding white
 after-next c = (
   _,
   after-ps (c .before .before .before .before) .1
-      ∙ step ofPad (closing 1) _ _ _ (c .before .before .take-closing .ensures) (c .next .given .1),
+      ∙ step ofPass (closing 1) _ _ _ (c .before .before .take-closing .ensures) (c .next .given .1),
 )
 
 returns : tie.Need-returns
@@ -39,7 +39,7 @@ unfolding white
 returns-2 c =
     sym
     (after-ps (c .before .before .before .before .before) .1
-    ∙ step ofPad (closing 1) _ _ _ (c .before .before .before .take-closing .ensures) (c .before .f2 .given .1))
+    ∙ step ofPass (closing 1) _ _ _ (c .before .before .before .take-closing .ensures) (c .before .f2 .given .1))
 
 returns-3 : tie.Need-returns-3
 unfolding white

@@ -6,7 +6,6 @@ use Rattle.steps.specs.Laws.{step, step-four, SoFar}
 use Rattle.steps.specs.Leaves.{byte, ofByte}
 use Rattle.steps.specs.Steps.{run}
 use Rattle.crate_detailed.specs.Detailed.{fitted, axes}
-use Rattle.crate_detailed.specs.Laws.{fitted-anywhere}
 use Rattle.crate_detailed.proofs.take_axes.Statement.{statement}
 use Rattle.crate_detailed.proofs.take_axes.Tie as tie
 
@@ -60,8 +59,7 @@ returns-3 c =
 returns-4 : tie.Need-returns-4
 unfolding axes
 returns-4 c =
-    c .axes-by .ensures
-    ∙ fitted-anywhere _ _ (now (c .before .before .before .before .before .before .before .before .before .before .before .before .before .before .before .before .args .s)) _
+    c .axes-by .ensures (now (c .before .before .before .before .before .before .before .before .before .before .before .before .before .before .before .before .args .s))
     ∙ ap₂ (λ h v. run (fitted h v) (now (c .before .before .before .before .before .before .before .before .before .before .before .before .before .before .before .before .args .s)) (c .before .before .before .before .hv .given .0 .1 .0 .at)) (c .before .before .across-of .ensures) (c .before .down-of .ensures)
     ∙ sym
     (after-hv (c .before .before .before .before) .1)

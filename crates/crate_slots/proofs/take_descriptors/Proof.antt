@@ -9,7 +9,7 @@ use denote.Ref.{now}
 use Rattle.steps.specs.Steps.{done, run, map, andThen, Outcome, got}
 use Rattle.steps.specs.Laws.{step, same-run, refused-beside}
 use Rattle.crate_record.specs.declared.StandardTimings.{StandardTimings}
-use Rattle.crate_text.specs.Answers.{ofPad}
+use Rattle.crate_text.specs.Answers.{ofPass}
 use Rattle.crate_timings.specs.Filling.{fillPairs, pair-refused, pair-listed, pairs-end, into-room, into-full, skipped}
 use Rattle.crate_detailed.specs.Detailed.{detailed}
 use Rattle.crate_detailed.specs.Answers.{ofDetailed}
@@ -194,7 +194,7 @@ returns-5 c =
     (so-far (x .before .before .before .before .before .before .before .before .before .before .before)
     ∙ later-turn x
     (six _ _ _ (e .enum-told3 .given .1) (p .before .before .loop2 .inv ∙ pairs-end _ _ _ _ _ (p .before .loop2-test .left))
-    ∙ step ofPad (closing 0) _ _ _ (p .take-closing .ensures) (c .before .before .f4 .given .1))))
+    ∙ step ofPass (closing 0) _ _ _ (p .take-closing .ensures) (c .before .before .f4 .given .1))))
 
 -- what the slot makes of the lists, by the ways on which the turn's match is left, and that they still have room
 grown : (c : tie.At-match2-came Inv-loop2 μ-loop2 Inv-loop μ-loop)
@@ -243,7 +243,7 @@ grown c =
     (λ w. (
       described (h .i) (held l) s at (w .2 .left) (w .1 .given .1) (w .3 .ensures) (w .5 .given .1)
           ∙ six _ _ _ (w .8 .given .1) (w .9 .inv ∙ pairs-end _ _ _ _ _ (w .10 .left))
-          ∙ step ofPad (closing 0) _ _ _ (w .11 .ensures) (w .13 .given .1)
+          ∙ step ofPass (closing 0) _ _ _ (w .11 .ensures) (w .13 .given .1)
           ∙ lists-are (w .15) (w .16) (w .17) (w .18) (w .19) (w .20) (w .21) (w .22) (w .23),
       nothing-more (h .inv .1) (w .18) (w .20) (w .22),
     ))))))

@@ -4,7 +4,7 @@ use mathlib.Core.Path.{sym, _∙_}
 use Prim.Native.Nat.{_-_}
 use Rattle.steps.specs.Laws.{step}
 use Rattle.crate_text.specs.Text.{scan, padding, text}
-use Rattle.crate_text.specs.Answers.{ofScan, ofPad}
+use Rattle.crate_text.specs.Answers.{ofScan, ofPass}
 use Rattle.crate_text.proofs.take_text.Statement.{statement}
 use Rattle.crate_text.proofs.take_text.Tie as tie
 
@@ -18,7 +18,7 @@ returns-2 c =
     let d = c .before .before .before .before .before in
     sym
     (step ofScan (scan 13 0) _ _ _ (d .before .before .take-scan .ensures) (d .n .given .1)
-    ∙ step ofPad (padding (12 - d .n .given .0 .0)) _ _ _ (c .before .before .before .take-padding .ensures) (c .before .f2 .given .1))
+    ∙ step ofPass (padding (12 - d .n .given .0 .0)) _ _ _ (c .before .before .before .take-padding .ensures) (c .before .f2 .given .1))
 
 returns-3 : tie.Need-returns-3
 unfolding text
@@ -26,7 +26,7 @@ returns-3 c =
     let d = c .before .before .before .before .before in
     sym
     (step ofScan (scan 13 0) _ _ _ (d .before .before .take-scan .ensures) (d .n .given .1)
-    ∙ step ofPad (padding (12 - d .n .given .0 .0)) _ _ _ (c .before .before .before .take-padding .ensures) (c .before .next .given .1))
+    ∙ step ofPass (padding (12 - d .n .given .0 .0)) _ _ _ (c .before .before .before .take-padding .ensures) (c .before .next .given .1))
 
 pub take-text-spec : {M : Type 1} → statement M
 take-text-spec =
