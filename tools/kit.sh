@@ -51,7 +51,7 @@ prove() { # NAME
 # target/staticlib/libexports.a, made anew where its crate was proved after it.
 archive() {
     prove exports
-    [ target/staticlib/libexports.a -nt target/stamp/exports ] || quietly rt staticlib exports
+    [ -e target/stamp/exports ] && [ target/staticlib/libexports.a -nt target/stamp/exports ] || quietly rt staticlib exports
 }
 
 # Compiles examples/PROGRAM.c with the archive to target/c/PROGRAM; -static: no C library of x86-64 is needed to run it.
