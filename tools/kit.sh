@@ -29,23 +29,35 @@ needed() { # NAME
         END { visit(name); print total + 0 }' crates.txt
 }
 
-# Proves and builds NAME and what it needs, where that has not been done, and says on standard error how far it is: nothing where there is
-# nothing to do, all that rt said where it fails. Four jobs, as in the gate: rt waits for the slowest of each batch.
+# Proves and builds NAME and what it needs, where that has not been done, and says on standard error which crates rt is at: nothing where there
+# is nothing to do, all that rt said where it fails. Four jobs, as in the gate: rt waits for the slowest of each batch.
 prove() { # NAME
-    total=$(needed "$1")
+    total=$(needed "$1") since=$(mktemp) failed=
     [ -e "target/stamp/$1" ] || [ "$total" = 0 ] || echo "$(basename "$0"): proving $1, $total crates in all: minutes, once" >&2
-    { RT_JOBS=${RT_JOBS:-4} rt check "$1" 2>&1 </dev/null || echo "failed with $?"; } | {
-        number=0 said=
-        while IFS= read -r line; do
-            said="$said$line
-"
-            case $line in
-            "rt: "*" proved (unchanged "*) number=$((number + 1)) ;;
-            "rt: "*" proved ("*) number=$((number + 1)) && echo "$(basename "$0"): $number of $total, ${line#rt: }" >&2 ;;
-            "failed with "*) printf '%s' "$said" >&2 && exit 1 ;;
-            esac
-        done
+    tell &
+    teller=$!
+    said=$(RT_JOBS=${RT_JOBS:-4} rt check "$1" 2>&1 </dev/null) || failed=yes
+    kill $teller
+    wait $teller 2>/dev/null || : # it was ended
+    rm "$since"
+    [ -z "$failed" ] || {
+        printf '%s\n' "$said" >&2
+        exit 1
     }
+}
+
+# Says which crates rt has begun and not ended, whenever they are others: rt writes its verdict on a crate last into the crate's log.
+tell() {
+    before=
+    while sleep 2 </dev/null >/dev/null 2>&1 && kill -0 $$ 2>/dev/null; do
+        ended=0 now=
+        for log in target/log/*.out; do
+            [ "$log" -nt "$since" ] || continue
+            if grep -q '^rt: ' "$log"; then ended=$((ended + 1)); else now="$now $(basename "$log" .out)"; fi
+        done
+        [ -z "$now" ] || [ "$now" = "$before" ] || echo "$(basename "$0"): $ended of $total crates proved, now$now" >&2
+        before=$now
+    done
 }
 
 # target/staticlib/libexports.a, made anew where its crate was proved after it.
