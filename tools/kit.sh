@@ -37,8 +37,8 @@ prove() { # NAME
     tell &
     teller=$!
     said=$(RT_JOBS=${RT_JOBS:-4} rt check "$1" 2>&1 </dev/null) || failed=yes
-    kill $teller
-    wait $teller 2>/dev/null || : # it was ended
+    kill $teller 2>/dev/null || :
+    wait $teller 2>/dev/null || :
     rm "$since"
     [ -z "$failed" ] || {
         printf '%s\n' "$said" >&2
