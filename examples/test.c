@@ -2,11 +2,12 @@
  *     test FILE       the specimen
  * Exit status: 0 all answers are as written, 1 some is not. */
 #include <stdio.h>
+#include <string.h>
 #include "edid.h"
 
-enum { BLOCK = 128 };
+enum { BLOCK = 128, LONGER = 136 };
 
-static unsigned failed;
+static unsigned asked, failed;
 
 static void expect(const char *what, size_t at, const uint8_t *block, size_t length, uint32_t number, size_t taken)
 {
@@ -16,6 +17,7 @@ static void expect(const char *what, size_t at, const uint8_t *block, size_t len
     uint32_t its_number = edid_refusal_number(block, length);
     size_t its_taken = edid_bytes_taken(block, length);
     bool its_zero = edid_sum_is_zero(block, length);
+    asked++;
     if (its_number == number && its_taken == taken && its_zero == (sum == 0))
         return;
     failed++;
@@ -42,9 +44,14 @@ static const struct {
     {127, 0x00, 0, 127}, /* the byte that makes up the sum */
 };
 
+/* The last slot and what follows: one white point and another of index 0, so that the slot takes 23 bytes; closed in the extension. */
+static const uint8_t white[LONGER - 108] = {
+    0, 0, 0, 0xfb, 0, 1, 5, 0x50, 0x54, 0x78, 0, 0, 0, 0, 0, 0x0a, 0x20, 0x20, 1, 0x5b, 0x0a, 0x20, 0x20, 5,
+};
+
 int main(int argc, char **argv)
 {
-    uint8_t block[BLOCK];
+    uint8_t block[LONGER];
     FILE *f = argc == 2 ? fopen(argv[1], "rb") : NULL;
     if (!f || fread(block, 1, BLOCK, f) != BLOCK) {
         fputs("test: the specimen is not there\n", stderr);
@@ -59,6 +66,9 @@ int main(int argc, char **argv)
         expect("changed byte", changed[i].at, block, BLOCK, changed[i].number, changed[i].taken);
         *byte = kept;
     }
-    printf("C: %zu blocks, %u answered otherwise than written\n", BLOCK + 2 + sizeof changed / sizeof *changed, failed);
+    memcpy(block + 108, white, sizeof white);
+    for (size_t length = BLOCK; length <= LONGER; length++)
+        expect("white points, cut at", length, block, length, length < 132, length < 132 ? length : 132);
+    printf("C: %u blocks, %u answered otherwise than written\n", asked, failed);
     return failed != 0;
 }

@@ -1,4 +1,5 @@
-# For the tools to source: where the Rattle kit is, and how a program for x86-64 is compiled from C and run on this machine.
+# For the tools to source, in the repository's folder: where the Rattle kit is, how crates are proved, and how a program for x86-64 is compiled
+# from C and run on this machine.
 kit=${RATTLE_HOME:-$(dirname "$(dirname "$(readlink -f "$(command -v rt)")")")}/on/$(uname -m)/toolchain
 emulator=$kit/bin/qemu-x86_64 # the kit has one where the processor is another
 [ -x "$emulator" ] || emulator=
@@ -13,6 +14,66 @@ quietly() { # COMMAND WORD..
         printf '%s\n' "$said" >&2
         exit 1
     }
+}
+
+# How many crates of crates.txt NAME needs, itself included.
+needed() { # NAME
+    awk -F: -v name="$1" '
+        function visit(crate, below, k, n) {
+            if (!(crate in needs) || seen[crate]++) return
+            total++
+            n = split(needs[crate], below, " ")
+            for (k = 1; k <= n; k++) visit(below[k])
+        }
+        /^[a-z]/ { needs[$1] = $2 }
+        END { visit(name); print total + 0 }' crates.txt
+}
+
+# Proves and builds NAME and what it needs, where that has not been done, and says on standard error which crates rt is at: nothing where there
+# is nothing to do, all that rt said where it fails. Four jobs, as in the gate: rt waits for the slowest of each batch.
+prove() { # NAME
+    total=$(needed "$1") since=$(mktemp) failed=
+    [ -e "target/stamp/$1" ] || [ "$total" = 0 ] || echo "$(basename "$0"): proving $1, $total crates in all: minutes, once" >&2
+    tell &
+    teller=$!
+    said=$(RT_JOBS=${RT_JOBS:-4} rt check "$1" 2>&1 </dev/null) || failed=yes
+    kill $teller 2>/dev/null || :
+    wait $teller 2>/dev/null || :
+    rm "$since"
+    [ -z "$failed" ] || {
+        printf '%s\n' "$said" >&2
+        exit 1
+    }
+}
+
+# Says which crates rt has begun and not ended, whenever they are others: rt writes its verdict on a crate last into the crate's log.
+tell() {
+    before=
+    while sleep 2 </dev/null >/dev/null 2>&1 && kill -0 $$ 2>/dev/null; do
+        ended=0 now=
+        for log in target/log/*.out; do
+            [ "$log" -nt "$since" ] || continue
+            if grep -q '^rt: ' "$log"; then ended=$((ended + 1)); else now="$now $(basename "$log" .out)"; fi
+        done
+        [ -z "$now" ] || [ "$now" = "$before" ] || echo "$(basename "$0"): $ended of $total crates proved, now$now" >&2
+        before=$now
+    done
+}
+
+# target/staticlib/libexports.a, made anew where its crate was proved after it.
+archive() {
+    prove exports
+    [ -e target/stamp/exports ] && [ target/staticlib/libexports.a -nt target/stamp/exports ] || quietly rt staticlib exports
+}
+
+# Compiles examples/PROGRAM.c with the archive to target/c/PROGRAM; -static: no C library of x86-64 is needed to run it.
+link_c() { # PROGRAM..
+    want $cc $cc_packages
+    archive
+    mkdir -p target/c
+    for program in "$@"; do
+        $cc -std=c11 -Wall -Wextra -Wpedantic -Werror -O2 -static -Iinclude -o "target/c/$program" "examples/$program.c" target/staticlib/libexports.a
+    done
 }
 
 # Installs Debian packages, where root has apt-get; whether it could.

@@ -4,6 +4,7 @@
 //! evenly by the large ones, each sampled by the seed, or taken whole where its share is as large. With `--all` every space that ends
 //! is taken whole and the count goes to those that do not. How many frames of which kind stand where is printed on standard error.
 
+use crate::cases::cases;
 use std::io::{self, BufWriter, Write};
 
 struct Kind {
@@ -15,23 +16,30 @@ struct Kind {
 const ENDLESS: u64 = u64::MAX;
 const SMALL: u64 = 4000;
 
-const KINDS: [Kind; 15] = [
-    Kind { name: "length", size: 2 * 301, make: length },
-    Kind { name: "tag", size: 3 * 256, make: tag },
-    Kind { name: "combination", size: 12 * 12 * 12, make: combination },
-    Kind { name: "short-or-long", size: 143 + 89, make: short_or_long },
-    Kind { name: "porch", size: 4 * 3 * 3 * 6, make: porch },
-    Kind { name: "width", size: 4 * 15 * 2, make: width },
-    Kind { name: "guard", size: 3 * 99, make: guard },
-    Kind { name: "value", size: 256, make: value },
-    Kind { name: "byte", size: (8 + 73) * 20, make: byte },
-    Kind { name: "float", size: 4096, make: float },
-    Kind { name: "gtf", size: (1 << 16) / 3 + 1, make: gtf },
-    Kind { name: "descriptors", size: VARIANTS * VARIANTS * VARIANTS, make: descriptors },
-    Kind { name: "cut-byte", size: 6 * 142 * 20 * 143, make: cut_byte },
-    Kind { name: "mixed", size: ENDLESS, make: mixed },
-    Kind { name: "noise", size: ENDLESS, make: noise },
-];
+fn kinds() -> [Kind; 20] {
+    [
+        Kind { name: "case", size: cases().count() as u64, make: case },
+        Kind { name: "length", size: 2 * 301, make: length },
+        Kind { name: "tag", size: 4 * 256, make: tag },
+        Kind { name: "pair", size: 26 * 5, make: pair },
+        Kind { name: "flag", size: 18, make: flag },
+        Kind { name: "point", size: 3 * 3 * 3 * 3, make: point },
+        Kind { name: "long-text", size: 6 * 6 * 6, make: long_text },
+        Kind { name: "combination", size: 12 * 12 * 12, make: combination },
+        Kind { name: "short-or-long", size: 143 + 89, make: short_or_long },
+        Kind { name: "porch", size: 4 * 3 * 3 * 6, make: porch },
+        Kind { name: "width", size: 4 * 15 * 2, make: width },
+        Kind { name: "guard", size: 3 * 99, make: guard },
+        Kind { name: "value", size: 256, make: value },
+        Kind { name: "byte", size: (8 + 73) * 20, make: byte },
+        Kind { name: "float", size: 4096, make: float },
+        Kind { name: "gtf", size: (1 << 16) / 3 + 1, make: gtf },
+        Kind { name: "descriptors", size: VARIANTS * VARIANTS * VARIANTS, make: descriptors },
+        Kind { name: "cut-byte", size: 6 * 142 * 20 * 143, make: cut_byte },
+        Kind { name: "mixed", size: ENDLESS, make: mixed },
+        Kind { name: "noise", size: ENDLESS, make: noise },
+    ]
+}
 
 pub fn generate(args: &[String]) -> io::Result<()> {
     let (mut seed, mut count, mut all) = (1, 100_000, false);
@@ -47,7 +55,8 @@ pub fn generate(args: &[String]) -> io::Result<()> {
     }
     let mut out = BufWriter::with_capacity(1 << 16, io::stdout());
     let mut dice = Dice(seed);
-    for (kind, wanted) in KINDS.iter().zip(shares(count, all)) {
+    let kinds = kinds();
+    for (kind, wanted) in kinds.iter().zip(shares(&kinds, count, all)) {
         eprintln!("{} {}", kind.name, wanted);
         for i in 0..wanted {
             let frame = (kind.make)(if wanted == kind.size { i } else { dice.below(kind.size) }, &mut dice);
@@ -59,11 +68,11 @@ pub fn generate(args: &[String]) -> io::Result<()> {
 }
 
 /// How many frames of each kind.
-fn shares(count: u64, all: bool) -> Vec<u64> {
+fn shares(kinds: &[Kind], count: u64, all: bool) -> Vec<u64> {
     let mut left = count;
     let mut shares = Vec::new();
-    for (i, kind) in KINDS.iter().enumerate() {
-        let most = if kind.size <= SMALL { left } else { left / (KINDS.len() - i) as u64 };
+    for (i, kind) in kinds.iter().enumerate() {
+        let most = if kind.size <= SMALL { left } else { left / (kinds.len() - i) as u64 };
         let share = if all && kind.size != ENDLESS { kind.size } else { kind.size.min(most) };
         if !all || kind.size == ENDLESS {
             left -= share;
@@ -290,6 +299,11 @@ fn slot_of(tag: u8, dice: &mut Dice) -> Vec<u8> {
 
 // ---- the kinds
 
+/// Every case of document 01, as oracle/cases.txt has them.
+fn case(i: u64, _: &mut Dice) -> Vec<u8> {
+    cases().nth(i as usize).expect("as many cases as the kind's size says").0
+}
+
 /// Every length from 0 to 300: the specimen cut or padded, and random bytes.
 fn length(i: u64, dice: &mut Dice) -> Vec<u8> {
     let n = i as usize % 301;
@@ -301,9 +315,52 @@ fn length(i: u64, dice: &mut Dice) -> Vec<u8> {
     b
 }
 
-/// Every tag in each of the three later slots.
+/// Every tag in each of the four slots; in the first one it is refused.
 fn tag(i: u64, dice: &mut Dice) -> Vec<u8> {
-    block_with(1 + i / 256, slot_of((i % 256) as u8, dice))
+    block_with(i / 256, slot_of((i % 256) as u8, dice))
+}
+
+/// Twenty-six pairs, the most there can be: all listed, or one of them 01 01, which is not, or 00 00, 01 00 or 00 01, which are.
+fn pair(i: u64, dice: &mut Dice) -> Vec<u8> {
+    let mut pairs: Vec<[u8; 2]> = (0..26).map(|_| [dice.byte(), dice.not(1)]).collect();
+    if let Some(odd) = [[1, 1], [0, 0], [1, 0], [0, 1]].get(i as usize / 26) {
+        pairs[i as usize % 26] = *odd;
+    }
+    let mut six = |slot: usize| tagged(dice, 0xfa, ended(pairs[8 + 6 * slot..14 + 6 * slot].concat(), b"\n"));
+    let mut b = block(SPECIMEN[54..72].to_vec(), [six(0), six(1), six(2)]);
+    b[38..54].copy_from_slice(&pairs[..8].concat());
+    b
+}
+
+/// Seventeen flags, the most there can be, and each sixteen of them.
+fn flag(i: u64, dice: &mut Dice) -> Vec<u8> {
+    let mut b = SPECIMEN.to_vec();
+    b[35..38].copy_from_slice(&[0xff, 0xff, 0x80 | dice.byte()]);
+    match i {
+        16 => b[37] ^= 0x80,
+        17 => (),
+        _ => b[35 + i as usize / 8] ^= 1 << i % 8,
+    }
+    b
+}
+
+/// Three slots of points: one, two in 23 bytes or two in 18 in each, so up to six, the most there can be; gamma as it comes, 00 or ff.
+fn point(i: u64, dice: &mut Dice) -> Vec<u8> {
+    let mut one = |n: u64| {
+        let mut slot = variant(4 + n % 3, dice);
+        if let Some(gamma) = [0x00, 0xff].get(i as usize / 27) {
+            slot[9] = *gamma;
+            slot[14] = *gamma;
+        }
+        slot
+    };
+    block(SPECIMEN[54..72].to_vec(), [one(i), one(i / 3), one(i / 9)])
+}
+
+/// Three texts of each tag, the most descriptors there can be, each as long as a text gets: twelve bytes and 0x0a, or thirteen.
+fn long_text(i: u64, dice: &mut Dice) -> Vec<u8> {
+    let mut one = |n: u64| variant(12 + 14 * (n % 3) + 12 + n / 3 % 2, dice);
+    block(SPECIMEN[54..72].to_vec(), [one(i), one(i / 6), one(i / 36)])
 }
 
 /// Every combination of slots over the three: timing, tag 10, fa, four fb, three fd, raw, text.

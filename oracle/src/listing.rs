@@ -23,12 +23,12 @@ impl io::Read for OneByte {
     }
 }
 
-pub fn list(out: &mut Vec<u8>, bytes: Vec<u8>) {
+/// The record, or the number of the refusal; the bytes taken; the input.
+fn reading(bytes: Vec<u8>) -> (std::result::Result<EDID, u8>, usize, Vec<u8>) {
     let mut source = OneByte { bytes, taken: 0 };
     let answer = catch_unwind(AssertUnwindSafe(|| parse(&mut source)));
-    let OneByte { bytes, taken } = source;
-    let refusal = match answer {
-        Ok(Ok(edid)) => return record(out, &edid, taken, &bytes).expect("a Vec takes every write"),
+    let number = match answer {
+        Ok(Ok(edid)) => return (Ok(edid), source.taken, source.bytes),
         Ok(Err("Unexpectedly out of data!")) => 1,
         Ok(Err("Invalid header.")) => 2,
         Ok(Err("Expected detailed timing block.")) => 3,
@@ -40,7 +40,25 @@ pub fn list(out: &mut Vec<u8>, bytes: Vec<u8>) {
             _ => crate::stop("edid-rs stopped, and not at a subtraction"),
         },
     };
-    writeln!(out, "refuse {} {}", refusal, taken).expect("a Vec takes every write");
+    (Err(number), source.taken, source.bytes)
+}
+
+/// The crate listing.
+pub fn list(out: &mut Vec<u8>, bytes: Vec<u8>) {
+    match reading(bytes) {
+        (Ok(edid), taken, bytes) => record(out, &edid, taken, &bytes),
+        (Err(number), taken, _) => writeln!(out, "refuse {} {}", number, taken),
+    }
+    .expect("a Vec takes every write");
+    out.extend_from_slice(b"--\n");
+}
+
+/// What the three functions that C calls have to answer: the refusal's number, 0 where there is none, the bytes taken, and whether the
+/// bytes add up to zero.
+pub fn numbers(out: &mut Vec<u8>, bytes: Vec<u8>) {
+    let sum = bytes.iter().fold(0u8, |sum, byte| sum.wrapping_add(*byte));
+    let (answer, taken, _) = reading(bytes);
+    writeln!(out, "{} {} {}", answer.err().unwrap_or(0), taken, (sum == 0) as u8).expect("a Vec takes every write");
 }
 
 fn record(out: &mut Vec<u8>, e: &EDID, taken: usize, bytes: &[u8]) -> io::Result<()> {

@@ -1,6 +1,9 @@
-//! Answers frames by edid-rs, unchanged: `oracle <FRAMES >LISTINGS`. A frame is its length in 16 bits, low byte first, then as many
-//! bytes, at most 4,096. For each frame: the crate listing, then a line `--`. `oracle gen` makes frames (see frames.rs).
+//! Answers frames by edid-rs, unchanged. A frame is its length in 16 bits, low byte first, then as many bytes, at most 4,096.
+//!     oracle <FRAMES           for each frame the crate listing, then a line `--`
+//!     oracle numbers <FRAMES   for each frame a line with the three answers that C gets (see listing.rs)
+//!     oracle gen >FRAMES       makes frames (see frames.rs)
 
+mod cases;
 mod frames;
 mod listing;
 
@@ -12,16 +15,17 @@ const LONGEST: usize = 4096;
 fn main() {
     let args: Vec<String> = std::env::args().skip(1).collect();
     let done = match args.first().map(String::as_str) {
-        None => answer(),
+        None => answer(listing::list),
+        Some("numbers") => answer(listing::numbers),
         Some("gen") => frames::generate(&args[1..]),
-        Some(_) => stop("usage: oracle <FRAMES, or oracle gen [--seed S] [--count N] [--all] >FRAMES"),
+        Some(_) => stop("usage: oracle [numbers] <FRAMES, or oracle gen [--seed S] [--count N] [--all] >FRAMES"),
     };
     if let Err(e) = done {
         stop(&e.to_string());
     }
 }
 
-fn answer() -> io::Result<()> {
+fn answer(write: fn(&mut Vec<u8>, Vec<u8>)) -> io::Result<()> {
     std::panic::set_hook(Box::new(|_| {}));
     let mut input = io::stdin().lock();
     let mut out = BufWriter::with_capacity(1 << 16, io::stdout());
@@ -29,8 +33,7 @@ fn answer() -> io::Result<()> {
     let mut number = 0;
     while let Some(frame) = next_frame(&mut input, number)? {
         text.clear();
-        listing::list(&mut text, frame);
-        text.extend_from_slice(b"--\n");
+        write(&mut text, frame);
         out.write_all(&text)?;
         number += 1;
     }
