@@ -17,7 +17,8 @@ extern "C" {
 /* 0 where the block is accepted, else what a reading byte after byte meets first: 1 no byte left, 2 another header, 3 no timing in the first
  * slot, 4 no 0x0a (in GTF: no 0x00) where one is due, 5 no 0x20, 6 a back porch below zero. Above 1, no later byte changes it.
  * A whole block of 128 bytes may meet 1, too: a slot of white points (fb) can take 23 bytes. Then hand over the first extension as well, if
- * block[126] is not 0; if it is, or the answer is again not 0, this reading refuses the panel, and the standard reading tells its white point. */
+ * block[126] is not 0; if it is, or the answer is again not 0, this reading refuses the panel; the standard reading, where it accepts the block,
+ * tells its white point. */
 uint32_t edid_refusal_number(const uint8_t *block, size_t length);
 
 /* How many bytes that reading took, to the end of the record or to its refusal: 88 to 142 where it accepts, so perhaps more than a block has;

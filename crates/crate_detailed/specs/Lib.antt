@@ -1,4 +1,4 @@
 -- What the contracts of `crate_detailed` cite.
 pub mod Detailed
 pub mod Answers
-pub mod Lengths
+pub mod Sizes

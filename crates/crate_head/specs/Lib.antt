@@ -1,4 +1,4 @@
 -- What the contracts of `crate_head` cite.
 pub mod Head
 pub mod Answers
-pub mod Lengths
+pub mod Sizes

@@ -21,7 +21,6 @@ use steps::Refusal;
 use steps::TwoRead;
 use steps::WordRead;
 ghost use mathlib.Core.Path.{_≡_};
-ghost use Prim.Native.Nat.{_%_};
 ghost use Rattle.steps.specs.Steps.{run};
 ghost use Rattle.crate_head.specs.Head.{header, makerOf, maker, date, product, version, inputOf, input, sizeOf, gammaFrom, kindOf, dpmsOf, dpms, display, color, front};
 ghost use Rattle.crate_head.specs.Answers.{ofHeader, ofMaker, ofDate, ofProduct, ofVersion, ofInput, ofDpms, ofDisplay, ofColor, ofFront};

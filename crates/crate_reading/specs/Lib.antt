@@ -1,5 +1,5 @@
--- What the contract of the crate reading cites.
+-- The definition of the crate reading, and what holds of its sizes.
 pub mod Reading
+pub mod Parts
 pub mod Answers
-pub mod Filling
-pub mod Lengths
+pub mod Sizes

@@ -29,7 +29,7 @@ parts = do
   n ← byte
   done (record { front = f; established = e; eight = a; slots = xs; extensions = n })
 
--- what is to be plain of it, list by list
+-- what the block says, in plain lists
 unfoldable pub plain : Parts → Seen
 plain p = record {
   product = p .front .product;

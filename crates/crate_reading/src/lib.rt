@@ -15,7 +15,7 @@ ghost use mathlib.Core.Path.{_≡_};
 ghost use Rattle.steps.specs.Leaves.{Beside};
 ghost use Rattle.crate_record.specs.Filler.{blank};
 ghost use Rattle.crate_reading.specs.Reading.{answer};
-ghost use Rattle.crate_reading.specs.Filling.{edidOf};
+ghost use Rattle.crate_reading.specs.Parts.{edidOf};
 
 fn refuse(f: Refusal) -> Reading
     ensures { λ r. ⌜ (r .edid ≡ blank) × (r .end ≡ End.Refused f) ⌝ }

@@ -1,4 +1,4 @@
--- For the proofs alone: a push as the code makes it. What it makes of the fixed list of a plain one is the fixed list with one element more;
+-- Nothing to believe: a push as the code makes it. What it makes of the fixed list of a plain one is the fixed list with one element more;
 -- pushed one after the other, elements go behind those that are there.
 use Prim.Native.Nat.{ℕ}
 use mathlib.Core.Path.{_≡_, refl, sym, ap, _∙_}

@@ -3,7 +3,7 @@ use mathlib.Core.Bool.{true, false}
 use mathlib.Core.List.{[]}
 use mathlib.Core.Path.{_≡_, refl}
 use lib.Ieee.{binary32, ofBits, toBits}
-use Rattle.page.specs.Words.{text, decimalIn, field32, field16, field8, flag, hexDigit, hexOf2, hexOf4, hexOf8, float, flat, each}
+use Rattle.page.specs.Words.{text, decimalIn, field32, field16, field8, flag, hexDigit, hexOf2, hexOf4, hexOf8, float, flat}
 use Rattle.timing.specs.Axis.{pixels, lines}
 use Rattle.timing.specs.declared.StereoType.the-variants as Stereo
 use Rattle.timing.specs.declared.SyncPolarity.the-variants.{Positive, Negative}

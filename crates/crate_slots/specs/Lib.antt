@@ -1,6 +1,4 @@
--- What the contracts of `crate_slots` cite.
+-- The definition of the slots, and what holds of their sizes.
 pub mod Slots
 pub mod Answers
-pub mod Filling
-pub mod Laws
-pub mod Lengths
+pub mod Sizes

@@ -2,4 +2,4 @@
 pub mod Text
 pub mod Answers
 pub mod Laws
-pub mod Lengths
+pub mod Sizes

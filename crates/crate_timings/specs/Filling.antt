@@ -1,8 +1,8 @@
--- For the proofs alone: how the code fills its lists, flag by flag and pair by pair, and that this comes to the fixed lists of the plain ones.
+-- Nothing to believe: how the code fills its lists, flag by flag and pair by pair, and that this comes to the fixed lists of the plain ones.
 use Prim.Native.Nat.{ℕ, zero, suc, _+_, _-_, _<_, _≤_}
 use mathlib.Core.Path.{_≡_, refl, sym, ap, _∙_}
 use mathlib.Core.Bool.{Bool, true, false, cond}
-use mathlib.Core.List.{List, [], _∷_, _++_, append-nil}
+use mathlib.Core.List.{List, [], _++_, append-nil}
 use lib.ListN.{set}
 use Rattle.bits.specs.Fields.{bit}
 use Rattle.fixed.specs.Fixed.{put-room, more-room, put-full, more-full}

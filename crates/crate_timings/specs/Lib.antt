@@ -1,6 +1,6 @@
--- What the contracts of `crate_timings` cite.
+-- The definitions of flags and pairs, how the code fills its lists, and what holds of their sizes.
 pub mod Established
 pub mod Pairs
 pub mod Answers
 pub mod Filling
-pub mod Lengths
+pub mod Sizes

@@ -7,10 +7,10 @@ use native.Mathlib.Omega.{arith}
 use lib.ListN.{length, take}
 use Rattle.steps.specs.Steps.{got, refused, run}
 use Rattle.steps.specs.Answers.{taken, within, Enough, cut-short, same-start, out-at-end, numbered}
-use Rattle.crate_record.specs.Seen.{seen, Same, holding, shows}
+use Rattle.crate_record.specs.Seen.{seen, Same, holding, Fits, shows}
 use Rattle.crate_record.specs.declared.EDID.{EDID}
 use Rattle.crate_reading.specs.Reading.{Parts, parts, plain, reading, answer}
-use Rattle.crate_reading.specs.Lengths.{ends-reading, parts-of, read-of}
+use Rattle.crate_reading.specs.Sizes.{ends-reading, parts-of, read-of}
 use Rattle.demands.specs.Cases.{shortest, longest, cases, cases-hold}
 
 -- ---- demand 3
@@ -40,23 +40,37 @@ a-record-of-142-bytes = (_, cases-hold .1 .0)
 
 -- ---- records
 
--- no entry is dropped: a record shows all that was read, list by list
+-- what is read fits the record: 17 flags, 26 standard and 4 detailed timings, 6 points, 3 descriptors
+pub they-fit : (s : List ℕ) (p : Parts) (n : ℕ) → run parts s 0 ≡ got p n → Fits (plain p)
+they-fit s p n h = read-of s p n h .fits
+
+-- so no entry is dropped: a record shows all that was read, list by list
 pub nothing-dropped : (s : List ℕ) (e : EDID) (n : ℕ) → answer s ≡ got e n → (p : Parts) × (run parts s 0 ≡ got p n) × (seen e ≡ plain p)
 nothing-dropped s e n h =
     let q = parts-of s e n h in
-    (q .0, q .1, ap seen (q .2) ∙ shows (plain (q .0)) (read-of s (q .0) n (q .1) .fits))
+    (q .0, q .1, ap seen (q .2) ∙ shows (plain (q .0)) (they-fit s (q .0) n (q .1)))
 
 -- each list of a record is its entries, then the filler
 pub entries-then-filler : (s : List ℕ) (e : EDID) (n : ℕ) → answer s ≡ got e n → e ≡ holding (seen e)
 entries-then-filler s e n h =
     let q = parts-of s e n h in
-    let r = shows (plain (q .0)) (read-of s (q .0) n (q .1) .fits) in
+    let r = shows (plain (q .0)) (they-fit s (q .0) n (q .1)) in
     q .2 ∙ sym (ap holding (ap seen (q .2) ∙ r))
 
--- so a record is known by what it shows
+-- so a record is known by what it shows; the bytes taken may differ, as by a last slot of tag fa with six pairs of 01 01, or of tag 10
 pub known-by-what-it-shows : (s t : List ℕ) (e f : EDID) (n m : ℕ) → answer s ≡ got e n → answer t ≡ got f m → Same e f → e ≡ f
 known-by-what-it-shows s t e f n m h k same =
     entries-then-filler s e n h ∙ ap holding same ∙ sym (entries-then-filler t f m k)
+
+-- ---- places
+
+-- the bytes taken, or a refusal's place, are at most the input's length
+pub taken-inside : (s : List ℕ) → taken (answer s) ≤ length s
+taken-inside s = within reading s 0 (omega arith)
+
+-- out of data is refused there
+pub out-of-data-at-the-length : (s : List ℕ) (n : ℕ) → answer s ≡ refused 1 n → n ≡ length s
+out-of-data-at-the-length s n o = out-at-end reading _ s 0 n ends-reading (omega arith) o
 
 -- ---- refusals
 
@@ -66,8 +80,4 @@ refusal-1-to-6 s k n o = numbered reading _ s 0 ends-reading k n o
 
 -- the place is at most the input's length
 pub refused-inside : (s : List ℕ) (k n : ℕ) → answer s ≡ refused k n → n ≤ length s
-refused-inside s k n o = subst (λ r. taken r ≤ length s) o (within reading s 0 (omega arith))
-
--- and out of data is refused there
-pub out-of-data-at-the-length : (s : List ℕ) (n : ℕ) → answer s ≡ refused 1 n → n ≡ length s
-out-of-data-at-the-length s n o = out-at-end reading _ s 0 n ends-reading (omega arith) o
+refused-inside s k n o = subst (λ r. taken r ≤ length s) o (taken-inside s)

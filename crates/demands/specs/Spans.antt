@@ -1,12 +1,12 @@
 -- Every span of an accepted record lies inside the bytes taken; a text holds no 0x0a, and one stands behind it where it is shorter than 13.
 use Prim.Native.Nat.{ℕ, zero, suc, _+_, _-_, _≤_, _<_}
-use mathlib.Core.Path.{_≡_, refl, sym, _∙_, ap, subst}
+use mathlib.Core.Path.{_≡_, sym, _∙_, ap, subst}
 use mathlib.Core.Bool.{Bool, true, false, cond}
 use mathlib.Core.List.{List, [], _∷_, _++_}
 use native.Mathlib.Omega.{arith}
 use native.Mathlib.Nat.{le-refl}
 use lib.Dec.{eqb, ltb}
-use lib.ListN.{length, getD}
+use lib.ListN.{getD}
 use borrow.Author.Tests.{eqb-true, eqb-false}
 use Rattle.steps.specs.Steps.{done, _>>=_, got}
 use Rattle.steps.specs.Leaves.{byte, word}
@@ -14,7 +14,7 @@ use Rattle.steps.specs.Meets.{Meets, Gives, meets, meets-map, meets-then, meets
 use Rattle.steps.specs.Spans.{Inside, Text}
 use Rattle.steps.specs.declared.Span.{Span}
 use Rattle.crate_text.specs.Text.{scan, padding, skip, span, text}
-use Rattle.crate_text.specs.Lengths.{takes-padding, takes-skip}
+use Rattle.crate_text.specs.Sizes.{takes-skip}
 use Rattle.crate_record.specs.Seen.{seen}
 use Rattle.crate_record.specs.declared.EDID.{EDID}
 use Rattle.crate_record.specs.declared.Held.{Held}
@@ -30,7 +30,7 @@ use Rattle.tags.specs.declared.Tag.{Tag}
 use Rattle.crate_detailed.specs.Detailed.{detailed}
 use Rattle.crate_detailed.specs.declared.MaybeTiming.{MaybeTiming}
 use Rattle.crate_detailed.specs.declared.MaybeTiming.the-variants as Maybe
-use Rattle.crate_descriptors.specs.Descriptors.{closing, points, white, none, gtfOf, gtf, other, secondary, limitsOf, range, stringOf, string, rawOf, raw, byTag, tagged, descriptor}
+use Rattle.crate_descriptors.specs.Descriptors.{closing, points, white, none, gtfOf, gtf, other, secondary, range, stringOf, string, rawOf, raw, byTag, tagged, descriptor}
 use Rattle.crate_descriptors.specs.declared.Points.the-variants.{One, Two}
 use Rattle.crate_descriptors.specs.declared.Slot.{Slot}
 use Rattle.crate_descriptors.specs.declared.Slot.the-variants.{Nothing, Described, White, Six}

@@ -3,24 +3,29 @@ use Prim.Native.Nat.{ℕ, _≤_}
 use mathlib.Core.Path.{_≡_, sym, ap, _∙_}
 use mathlib.Core.List.{List}
 use native.Mathlib.Omega.{arith}
+use lib.ListN.{length}
 use Rattle.steps.specs.declared.Refusal.{Refusal}
 use Rattle.standard_record.specs.Filler.{blank}
-use Rattle.standard_record.specs.Seen.{seen, Same, holding}
+use Rattle.standard_record.specs.Seen.{seen, Same, holding, shows}
 use Rattle.standard_record.specs.declared.Verdict.the-variants.{Accepted, Refused}
 use Rattle.standard_slots.specs.Spans.{Sounds}
 use Rattle.standard_reading.specs.Block.{plain, recordOf, beside, standardOf}
-use Rattle.standard_reading.specs.Judged.{end-is-verdict, bounded, sounds}
-use Rattle.standard_reading.specs.Room.{accepted, nothing-cut}
+use Rattle.standard_reading.specs.Judged.{end-is-verdict, bounded, accepted-128, sounds}
+use Rattle.standard_reading.specs.Room.{fits, accepted}
 
 -- ---- an accepted block
 
+-- it has 128 bytes
+pub accepted-has-128 : (s : List ℕ) → standardOf s .end ≡ Accepted → length s ≡ 128
+accepted-has-128 s e = accepted-128 s e
+
 -- its record shows what the block says: nothing is dropped
 pub nothing-dropped : (s : List ℕ) → standardOf s .end ≡ Accepted → seen (standardOf s .edid) ≡ plain s
-nothing-dropped s e = nothing-cut s e
+nothing-dropped s e = ap seen (accepted s e) ∙ shows (plain s) (fits s)
 
 -- each list of it is its entries, then the filler
 pub entries-then-filler : (s : List ℕ) → standardOf s .end ≡ Accepted → standardOf s .edid ≡ holding (seen (standardOf s .edid))
-entries-then-filler s e = accepted s e ∙ sym (ap holding (nothing-cut s e))
+entries-then-filler s e = accepted s e ∙ sym (ap holding (nothing-dropped s e))
 
 -- so it is known by what it shows: two accepted readings whose records are the same are equal
 pub known-by-what-it-shows : (s t : List ℕ) → standardOf s .end ≡ Accepted → standardOf t .end ≡ Accepted
@@ -32,7 +37,7 @@ known-by-what-it-shows s t e h same =
 
 -- every span of it lies before the last two bytes, 126 and 127; a text is at most 13 bytes, none of them 0x0a, with 0x0a behind fewer than 13
 pub spans-inside : (s : List ℕ) → standardOf s .end ≡ Accepted → Sounds s (seen (standardOf s .edid) .descriptors) 126
-spans-inside s e = rw (nothing-cut s e) (sounds s e)
+spans-inside s e = rw (nothing-dropped s e) (sounds s e)
 
 -- ---- a refused block
 

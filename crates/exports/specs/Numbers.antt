@@ -8,7 +8,7 @@ use Rattle.steps.specs.Leaves.{ended}
 use Rattle.steps.specs.Answers.{taken, numbered}
 use Rattle.crate_record.specs.declared.EDID.{EDID}
 use Rattle.crate_reading.specs.Reading.{reading, answer}
-use Rattle.crate_reading.specs.Lengths.{ends-reading}
+use Rattle.crate_reading.specs.Sizes.{ends-reading}
 use Rattle.steps.specs.declared.End.{End}
 use Rattle.steps.specs.declared.End.the-variants as E
 

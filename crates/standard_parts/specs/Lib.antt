@@ -4,4 +4,4 @@ pub mod Color
 pub mod Timings
 pub mod Descriptors
 pub mod Text
-pub mod Ends
+pub mod TextEnds

@@ -7,9 +7,10 @@ use native.Mathlib.Omega.{arith}
 use lib.ListN.{length, length-append}
 use Rattle.bits.specs.Fields.{bit}
 use Rattle.bits.specs.Bytes.{_!_, part}
-use Rattle.fixed.specs.Gather.{gather, when, when-at-most, gather-at-most, gather-later}
+use Rattle.fixed.specs.Gather.{gather, gather-at-most, gather-later}
+use Rattle.shared_record.specs.Established.{flags-fit}
 use Rattle.standard_record.specs.declared.Verdict.the-variants.{Accepted}
-use Rattle.standard_record.specs.Seen.{seen, holding, Fits, shows}
+use Rattle.standard_record.specs.Seen.{holding, Fits}
 use Rattle.standard_parts.specs.Timings.{flagsOf}
 use Rattle.standard_slots.specs.Said.{pairsAt, lists}
 use Rattle.standard_slots.specs.Few.{Few, few, NoneButTimings, first-slot, pairs-at-most}
@@ -44,24 +45,14 @@ module _ (s : List ℕ) where
   pub descriptors-room : (n : ℕ) → length (descriptorsOf s n) ≤ n - 1
   descriptors-room n = omega (arith, gather-later (λ i. lists (saidIn s i) .descriptors) 1 (first-in .descriptors) (λ i. few-in i .descriptors) n)
 
-flags-room : (b35 b36 b37 : ℕ) → length (flagsOf b35 b36 b37) ≤ 17
-unfolding flagsOf
-flags-room b35 b36 b37 =
-    let v : ℕ = b35 + 256 * b36 in
-    omega (
-      arith,
-      length-append (gather (λ k. when (bit v k) k) 16) (when (bit b37 7) 16),
-      gather-at-most (λ k. when (bit v k) k) 1 (λ k. when-at-most (bit v k) k) 16,
-      when-at-most {A = ℕ} (bit b37 7) 16,
-    )
-
 -- ---- the block
 
 pub fits : (s : List ℕ) → Fits (plain s)
+unfolding flagsOf
 fits s =
     record {
       points = points-room s 4;
-      established = flags-room (s ! 35) (s ! 36) (s ! 37);
+      established = flags-fit (bit (s ! 35 + 256 * (s ! 36))) (bit (s ! 37) 7);
       standard = pairs-room s 4;
       detailed = timings-room s 4;
       descriptors = descriptors-room s 4;
@@ -71,7 +62,3 @@ fits s =
 pub accepted : (s : List ℕ) → standardOf s .end ≡ Accepted → standardOf s .edid ≡ holding (plain s)
 unfolding standardOf recordOf
 accepted s e = ap (λ v. beside v (recordOf s) .edid) (sym (end-is-verdict s) ∙ e)
-
--- it shows all that the block says
-pub nothing-cut : (s : List ℕ) → standardOf s .end ≡ Accepted → seen (standardOf s .edid) ≡ plain s
-nothing-cut s e = ap seen (accepted s e) ∙ shows (plain s) (fits s)

@@ -12,7 +12,7 @@ use Rattle.standard_record.specs.declared.Held.{Held}
 use Rattle.standard_record.specs.declared.Descriptor.{Descriptor}
 use Rattle.standard_record.specs.declared.SecondaryTiming.{SecondaryTiming}
 use Rattle.standard_parts.specs.Descriptors.{secondaryOf}
-use Rattle.standard_parts.specs.Ends.{ends}
+use Rattle.standard_parts.specs.TextEnds.{text-ends}
 use Rattle.standard_slots.specs.Said.{lists, textIn, rangeIn, rawOf, said}
 use Rattle.standard_slots.specs.Each.{either, each}
 
@@ -54,7 +54,7 @@ module _ (s : List ℕ) (at n : ℕ) (room : at + 18 ≤ n) (whole : at + 18 ≤
 
   sound-text : Text s (textIn (part s at 18) at) n
   sound-text =
-      let q = ends (part (part s at 18) 5 13) in
+      let q = text-ends (part (part s at 18) 5 13) in
       let size = text-size in
       record {
         inside = omega (arith, q .short);

@@ -113,10 +113,6 @@ pub refused-beside : {A : Type 0} {filler a : A} {e : End} {f : Refusal} {o : Ou
 refused-beside {A} {filler} {a} p q r =
     record { answer = ap (ended a) q ∙ r; filled = subst (Filled filler a) (sym q) p }
 
--- the same answer to an equal outcome, as where a function ends in a call
-pub beside-is : {A : Type 0} {filler a : A} {e : End} {o o′ : Outcome A} → Beside filler a e o → o ≡ o′ → Beside filler a e o′
-beside-is b q = record { answer = b .answer ∙ q; filled = b .filled }
-
 -- ---- programs that are equal
 
 pub then-then : {A B C : Type 0} (p : Steps A) (g : A → Steps B) (h : B → Steps C) → (p >>= g) >>= h ≡ (p >>= (λ a. g a >>= h))

@@ -1,6 +1,6 @@
 -- `crate_reading::edid_of` meets its contract: by computation. Assumes nothing.
 use mathlib.Core.Path.{refl}
-use Rattle.crate_reading.specs.Filling.{edidOf}
+use Rattle.crate_reading.specs.Parts.{edidOf}
 use Rattle.crate_reading.proofs.edid_of.Statement.{statement}
 use Rattle.crate_reading.proofs.edid_of.Tie as tie
 

@@ -13,7 +13,7 @@ use Rattle.crate_timings.specs.Established.{established}
 use Rattle.crate_timings.specs.Pairs.{pairs}
 use Rattle.crate_slots.specs.Slots.{slots, listsAfter}
 use Rattle.crate_reading.specs.Reading.{reading}
-use Rattle.crate_reading.specs.Filling.{fillReading, reading-filled}
+use Rattle.crate_reading.proofs.Filling.{fillReading, reading-filled}
 use Rattle.crate_reading.proofs.read.Statement.{statement}
 use Rattle.crate_reading.proofs.read.Tie as tie
 

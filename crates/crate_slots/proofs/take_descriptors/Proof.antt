@@ -16,8 +16,8 @@ use Rattle.crate_detailed.specs.Answers.{ofDetailed}
 use Rattle.crate_descriptors.specs.Descriptors.{closing}
 use Rattle.crate_slots.specs.declared.Lists.{Lists}
 use Rattle.crate_slots.specs.Slots.{slots, listsAfter}
-use Rattle.crate_slots.specs.Filling.{fillBy, fillSlots, slots-filled}
-use Rattle.crate_slots.specs.Laws.{place, turns, turns-more, turns-end, place-some, place-first, described, six, lists, timed-room, described-room, one-room, two-room, lists-are}
+use Rattle.crate_slots.proofs.Filling.{fillBy, fillSlots, slots-filled}
+use Rattle.crate_slots.proofs.Laws.{fillSlot, turns, turns-more, turns-end, slot-some, slot-first, described, six, arrays, timed-room, described-room, one-room, two-room, arrays-are}
 use Rattle.crate_slots.proofs.take_descriptors.Statement.{statement}
 use Rattle.crate_slots.proofs.take_descriptors.Tie as tie
 
@@ -37,8 +37,8 @@ Room i timed pointed entered = (timed ≤ i) × (pointed ≤ 2 * (i - 1)) × (en
 -- the slots
 abbrev Inv-loop : tie.InvT-loop
 Inv-loop s standards₀ listed₀ timings₀ timed₀ points₀ pointed₀ entries₀ entered₀ c₀ i₀ standards listed timings timed points pointed entries entered c i =
-    (run (turns 0 (lists standards₀ listed₀ timings₀ timed₀ points₀ pointed₀ entries₀ entered₀)) s (c₀ .at)
-    ≡ run (turns i (lists standards listed timings timed points pointed entries entered)) s (c .at))
+    (run (turns 0 (arrays standards₀ listed₀ timings₀ timed₀ points₀ pointed₀ entries₀ entered₀)) s (c₀ .at)
+    ≡ run (turns i (arrays standards listed timings timed points pointed entries entered)) s (c .at))
     × Room i timed pointed entered
 
 abbrev μ-loop : tie.MeasureT-loop
@@ -84,7 +84,7 @@ After-x = tie.After-x Inv-loop2 μ-loop2 Inv-loop μ-loop
 -- the lists at the start of a turn
 abbrev held : At-loop → Lists
 held l =
-    lists (l .loop .standards) (l .loop .listed) (l .loop .timings) (l .loop .timed) (l .loop .points) (l .loop .pointed) (l .loop .entries) (l .loop .entered)
+    arrays (l .loop .standards) (l .loop .listed) (l .loop .timings) (l .loop .timed) (l .loop .points) (l .loop .pointed) (l .loop .entries) (l .loop .entered)
 
 -- from the function's start to the start of a turn
 so-far : (l : At-loop)
@@ -97,7 +97,7 @@ so-far l = same-run _ _ (slots-filled _) ∙ l .loop .inv .0
 turn : {o : Outcome Lists} (c : After-t)
     → let l : At-loop = c .before .before .before .before in
     let b : Start = l .before .before .before in
-    run (place (l .loop .i) (held l) (c .t .given .0 .0)) (now (b .args .s)) (c .t .given .0 .1 .0 .at) ≡ o
+    run (fillSlot (l .loop .i) (held l) (c .t .given .0 .0)) (now (b .args .s)) (c .t .given .0 .1 .0 .at) ≡ o
     → run (turns (l .loop .i) (held l)) (now (b .args .s)) (l .loop .c .at)
     ≡ andThen o (λ a m. run (turns (l .loop .i + 1) a) (now (b .args .s)) m)
 turn c e =
@@ -106,7 +106,7 @@ turn c e =
     let b = l .before .before .before in
     same-run _ _ (turns-more _ _ (d .before .loop-test .taken))
     ∙ step ofDetailed detailed _ _ _ (d .take-detailed .ensures) (c .t .given .1)
-    ∙ step (λ o. o) (place (l .loop .i) (held l) (c .t .given .0 .0)) (turns (l .loop .i + 1)) (now (b .args .s)) (c .t .given .0 .1 .0 .at) refl e
+    ∙ step (λ o. o) (fillSlot (l .loop .i) (held l) (c .t .given .0 .0)) (turns (l .loop .i + 1)) (now (b .args .s)) (c .t .given .0 .1 .0 .at) refl e
 
 -- a turn, by what the descriptor comes to
 later-turn : {o : Outcome Lists} (c : After-x)
@@ -138,7 +138,7 @@ returns-2 c =
     refused-beside (c .refuse2 .ensures .0) (c .refuse2 .ensures .1)
     (sym
     (so-far (t .before .before .before .before)
-    ∙ turn t (same-run _ _ (place-first _ (c .before .if1 .taken) (c .before .before .enum-told .given .1)))))
+    ∙ turn t (same-run _ _ (slot-first _ (c .before .if1 .taken) (c .before .before .enum-told .given .1)))))
 
 returns-3 : tie.Need-returns-3 Inv-loop2 μ-loop2 Inv-loop μ-loop
 returns-3 c =
@@ -202,8 +202,8 @@ grown : (c : tie.At-match2-came Inv-loop2 μ-loop2 Inv-loop μ-loop)
     let l : At-loop = t .before .before .before .before in
     let b : Start = l .before .before .before in
     let m = c .match2 in
-    (run (place (l .loop .i) (held l) (t .t .given .0 .0)) (now (b .args .s)) (t .t .given .0 .1 .0 .at)
-    ≡ got (lists (m .standards) (m .listed) (m .timings) (m .timed) (m .points) (m .pointed) (m .entries) (m .entered)) (m .c .at))
+    (run (fillSlot (l .loop .i) (held l) (t .t .given .0 .0)) (now (b .args .s)) (t .t .given .0 .1 .0 .at)
+    ≡ got (arrays (m .standards) (m .listed) (m .timings) (m .timed) (m .points) (m .pointed) (m .entries) (m .entered)) (m .c .at))
     × Room (l .loop .i + 1) (m .timed) (m .pointed) (m .entered)
 grown c =
     let t = c .before .before in
@@ -212,39 +212,39 @@ grown c =
     let s = now (l .before .before .before .args .s) in
     let at = t .t .given .0 .1 .0 .at in
     ⊎-elim (λ w. (
-      same-run s at (place-some (h .i) (held l) (w .1 .given .1) ∙ ap done (timed-room (h .standards) (h .listed) (h .timings) (h .timed) (h .points) (h .pointed) (h .entries) (h .entered) _ (omega arith)))
-          ∙ lists-are (w .3) (w .4) (w .5) (w .6) (w .7) (w .8) (w .9) (w .10) (w .11),
+      same-run s at (slot-some (h .i) (held l) (w .1 .given .1) ∙ ap done (timed-room (h .standards) (h .listed) (h .timings) (h .timed) (h .points) (h .pointed) (h .entries) (h .entered) _ (omega arith)))
+          ∙ arrays-are (w .3) (w .4) (w .5) (w .6) (w .7) (w .8) (w .9) (w .10) (w .11),
       one-timed (h .inv .1) (w .6) (w .8) (w .10),
     ))
     (⊎-elim (λ w. (
       described (h .i) (held l) s at (w .2 .left) (w .1 .given .1) (w .3 .ensures) (w .5 .given .1)
           ∙ same-run _ _ (ap (fillBy (held l)) (w .8 .given .1))
-          ∙ lists-are (w .9) (w .10) (w .11) (w .12) (w .13) (w .14) (w .15) (w .16) (w .17),
+          ∙ arrays-are (w .9) (w .10) (w .11) (w .12) (w .13) (w .14) (w .15) (w .16) (w .17),
       nothing-more (h .inv .1) (w .12) (w .14) (w .16),
     ))
     (⊎-elim (λ w. (
       described (h .i) (held l) s at (w .2 .left) (w .1 .given .1) (w .3 .ensures) (w .5 .given .1)
           ∙ same-run _ _ (described-room (h .standards) (h .listed) (h .timings) (h .timed) (h .points) (h .pointed) (h .entries) (h .entered) (w .8 .given .1) (omega arith))
-          ∙ lists-are (w .10) (w .11) (w .12) (w .13) (w .14) (w .15) (w .16) (w .17) (w .18),
+          ∙ arrays-are (w .10) (w .11) (w .12) (w .13) (w .14) (w .15) (w .16) (w .17) (w .18),
       one-entered (h .inv .1) (w .2 .left) (w .13) (w .15) (w .17),
     ))
     (⊎-elim (λ w. (
       described (h .i) (held l) s at (w .2 .left) (w .1 .given .1) (w .3 .ensures) (w .5 .given .1)
           ∙ same-run _ _ (one-room (h .standards) (h .listed) (h .timings) (h .timed) (h .points) (h .pointed) (h .entries) (h .entered) (w .8 .given .1) (w .11 .given .1) (omega arith))
-          ∙ lists-are (w .13) (w .14) (w .15) (w .16) (w .17) (w .18) (w .19) (w .20) (w .21),
+          ∙ arrays-are (w .13) (w .14) (w .15) (w .16) (w .17) (w .18) (w .19) (w .20) (w .21),
       more-pointed (h .inv .1) 1 (omega arith) (w .2 .left) (w .16) (w .18) (w .20),
     ))
     (⊎-elim (λ w. (
       described (h .i) (held l) s at (w .2 .left) (w .1 .given .1) (w .3 .ensures) (w .5 .given .1)
           ∙ same-run _ _ (two-room (h .standards) (h .listed) (h .timings) (h .timed) (h .points) (h .pointed) (h .entries) (h .entered) (w .8 .given .1) (w .11 .given .1) (omega arith))
-          ∙ lists-are (w .13) (w .14) (w .15) (w .16) (w .17) (w .18) (w .19) (w .20) (w .21),
+          ∙ arrays-are (w .13) (w .14) (w .15) (w .16) (w .17) (w .18) (w .19) (w .20) (w .21),
       more-pointed (h .inv .1) 2 (omega arith) (w .2 .left) (w .16) (w .18) (w .20),
     ))
     (λ w. (
       described (h .i) (held l) s at (w .2 .left) (w .1 .given .1) (w .3 .ensures) (w .5 .given .1)
           ∙ six _ _ _ (w .8 .given .1) (w .9 .inv ∙ pairs-end _ _ _ _ _ (w .10 .left))
           ∙ step ofPass (closing 0) _ _ _ (w .11 .ensures) (w .13 .given .1)
-          ∙ lists-are (w .15) (w .16) (w .17) (w .18) (w .19) (w .20) (w .21) (w .22) (w .23),
+          ∙ arrays-are (w .15) (w .16) (w .17) (w .18) (w .19) (w .20) (w .21) (w .22) (w .23),
       nothing-more (h .inv .1) (w .18) (w .20) (w .22),
     ))))))
     (c .match2 .came)

@@ -1,4 +1,4 @@
--- For the proofs alone: how the code fills its lists, slot by slot, and that this comes to the lists of what the slots say.
+-- How the code fills its lists, slot by slot, and that this comes to the lists of what the slots say. Assumes nothing.
 use Prim.Native.Nat.{ℕ, zero, suc}
 use mathlib.Core.Path.{_≡_, refl, sym, ap, _∙_}
 use mathlib.Core.List.{List, [], _∷_, _++_, append-assoc, append-nil}

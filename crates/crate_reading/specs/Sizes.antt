@@ -1,5 +1,5 @@
 -- How many bytes an accepted block takes, and that what is read fits the record.
-use Prim.Native.Nat.{ℕ, _+_, _≤_}
+use Prim.Native.Nat.{ℕ, _≤_}
 use mathlib.Core.Path.{_≡_, sym, _∙_, subst}
 use mathlib.Core.List.{List}
 use native.Mathlib.Omega.{arith}
@@ -11,12 +11,12 @@ use Rattle.steps.specs.Answers.{Ends, ends-then, Ended, ends, takes-byte}
 use Rattle.crate_record.specs.Seen.{Fits, holding}
 use Rattle.crate_record.specs.declared.EDID.{EDID}
 use Rattle.crate_head.specs.Head.{front}
-use Rattle.crate_head.specs.Lengths.{takes-front}
+use Rattle.crate_head.specs.Sizes.{takes-front}
 use Rattle.crate_timings.specs.Established.{established}
 use Rattle.crate_timings.specs.Pairs.{pairs}
-use Rattle.crate_timings.specs.Lengths.{ends-established, ends-pairs}
+use Rattle.crate_timings.specs.Sizes.{ends-established, ends-pairs}
 use Rattle.crate_slots.specs.Slots.{slots, together}
-use Rattle.crate_slots.specs.Lengths.{Four, ends-slots}
+use Rattle.crate_slots.specs.Sizes.{Four, ends-slots}
 use Rattle.crate_reading.specs.Reading.{Parts, parts, plain, reading, answer}
 
 -- of the parts p, from m bytes

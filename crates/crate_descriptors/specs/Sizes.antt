@@ -9,7 +9,7 @@ use Rattle.tags.specs.Tags.{tagOf}
 use Rattle.tags.specs.declared.Tag.{Tag}
 use Rattle.crate_record.specs.declared.WhitePoint.{WhitePoint}
 use Rattle.crate_text.specs.Text.{skip, span, text}
-use Rattle.crate_text.specs.Lengths.{takes-skip, takes-span, takes-text}
+use Rattle.crate_text.specs.Sizes.{takes-skip, takes-span, takes-text}
 use Rattle.crate_descriptors.specs.declared.Points.{Points}
 use Rattle.crate_descriptors.specs.declared.Slot.{Slot}
 use Rattle.crate_descriptors.specs.declared.Slot.the-variants.{Nothing, Described, White, Six}

@@ -1,19 +1,19 @@
 -- The first slot takes 18 bytes where it is accepted, and n later ones 5 to 23 each; and how much the slots list at the most.
 use Prim.Native.Nat.{ℕ, zero, suc, _+_, _*_, _≤_}
 use mathlib.Core.Path.{_≡_}
-use mathlib.Core.List.{List, _∷_, _++_}
+use mathlib.Core.List.{List, _∷_}
 use native.Mathlib.Omega.{arith}
 use lib.ListN.{length, length-append}
 use Rattle.steps.specs.Steps.{done, _>>=_}
 use Rattle.steps.specs.Answers.{Ends, ends-then}
 use Rattle.crate_timings.specs.Pairs.{pairs}
-use Rattle.crate_timings.specs.Lengths.{ends-pairs}
+use Rattle.crate_timings.specs.Sizes.{ends-pairs}
 use Rattle.crate_detailed.specs.Detailed.{detailed}
-use Rattle.crate_detailed.specs.Lengths.{slotBytes, ends-detailed}
+use Rattle.crate_detailed.specs.Sizes.{slotBytes, ends-detailed}
 use Rattle.crate_detailed.specs.declared.MaybeTiming.{MaybeTiming}
 use Rattle.crate_detailed.specs.declared.MaybeTiming.the-variants as Maybe
 use Rattle.crate_descriptors.specs.Descriptors.{closing, descriptor}
-use Rattle.crate_descriptors.specs.Lengths.{takes-closing, left, whole-descriptor}
+use Rattle.crate_descriptors.specs.Sizes.{takes-closing, left, whole-descriptor}
 use Rattle.crate_descriptors.specs.declared.Points.the-variants.{One, Two}
 use Rattle.crate_descriptors.specs.declared.Slot.{Slot}
 use Rattle.crate_descriptors.specs.declared.Slot.the-variants.{Nothing, Described, White, Six}
