@@ -8,6 +8,8 @@
 
 enum { BURST = 16, BLOCK = 128, EXTENSIONS = 126 };
 
+#define OR_LATE ": badly written, or a slot of white points (fb) or tag 10 before it put this reading out of step; use the standard reading"
+
 static const char *sentence(uint32_t number, size_t taken)
 {
     if (taken >= BLOCK)
@@ -16,8 +18,8 @@ static const char *sentence(uint32_t number, size_t taken)
     case 1: return "the block ends too early; read it again, then look at cable and connector";
     case 2: return "this is no EDID, its first eight bytes are others; look at what is plugged in";
     case 3: return "the first slot holds no timing, so no mode is preferred; set one by hand";
-    case 4: return "a descriptor lacks the byte that closes it; the panel's memory is damaged or badly written";
-    case 5: return "a descriptor is not filled up with spaces; the panel's memory is damaged or badly written";
+    case 4: return "a descriptor lacks the byte that closes it" OR_LATE;
+    case 5: return "a descriptor is not filled up with spaces" OR_LATE;
     case 6: return "a timing leaves no room for its back porch; do not drive the panel with it";
     default: return "a number that edid.h does not have";
     }

@@ -16,14 +16,19 @@ def missing():
     return None if shutil.which("edid-decode") else "there is no edid-decode; Debian's package edid-decode has it"
 
 
-def compare(folder, replay):
-    """Prints where the two part, file by file; the number of files that part. replay is the words that run the standard reading."""
+def compare(folder, replay, stop):
+    """Prints where the two part, file by file; the number of files that part. replay is the words that run the standard reading, stop ends all
+    with a word."""
     blocks = {}
     for name in sorted(e.name for e in os.scandir(folder) if e.is_file() and e.name.endswith(".bin")):
         with open(os.path.join(folder, name), "rb") as f:
             blocks[name] = f.read(128)
+    if not blocks:
+        stop(f"{folder} has no file that ends in .bin")
     frames = b"".join(struct.pack("<H", len(block)) + block for block in blocks.values())
-    listings = subprocess.run(replay, input=frames, stdout=subprocess.PIPE, check=True).stdout.decode("ascii").split("--\n")
+    listings = subprocess.run(replay, input=frames, stdout=subprocess.PIPE, check=True).stdout.decode("ascii").split("--\n")[:-1]
+    if len(listings) != len(blocks):
+        stop(f"{len(listings)} of {len(blocks)} blocks were answered")
     alike = parting = refused = facts = 0
     for (name, block), listing in zip(blocks.items(), listings):
         ours, theirs = our_facts(listing, block), their_facts(block)

@@ -36,10 +36,12 @@ prove() { # NAME
     [ -e "target/stamp/$1" ] || [ "$total" = 0 ] || echo "$(basename "$0"): proving $1, $total crates in all: minutes, once" >&2
     tell &
     teller=$!
+    trap 'rm "$since"; exit 1' HUP INT TERM # now, for a trap set before would swallow the kill of a teller that has just begun
     said=$(RT_JOBS=${RT_JOBS:-4} rt check "$1" 2>&1 </dev/null) || failed=yes
     kill $teller 2>/dev/null || :
     wait $teller 2>/dev/null || :
     rm "$since"
+    trap - HUP INT TERM
     [ -z "$failed" ] || {
         printf '%s\n' "$said" >&2
         exit 1
@@ -53,7 +55,8 @@ tell() {
         ended=0 now=
         for log in target/log/*.out; do
             [ "$log" -nt "$since" ] || continue
-            if grep -q '^rt: ' "$log"; then ended=$((ended + 1)); else now="$now $(basename "$log" .out)"; fi
+            crate=$(basename "$log" .out)
+            if grep -q "^rt: $crate proved " "$log"; then ended=$((ended + 1)); elif ! grep -q '^rt: ' "$log"; then now="$now $crate"; fi
         done
         [ -z "$now" ] || [ "$now" = "$before" ] || echo "$(basename "$0"): $ended of $total crates proved, now$now" >&2
         before=$now

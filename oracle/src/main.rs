@@ -4,6 +4,8 @@
 //!     oracle gen >FRAMES       makes frames (see frames.rs)
 
 mod cases;
+#[cfg(test)]
+mod checked;
 mod frames;
 mod listing;
 
