@@ -93,7 +93,7 @@ ends-first (Maybe.Some t) m e =
     record {
       least = omega (arith, r .0, e);
       most = omega (arith, r .1, e);
-      standards = r .2 .standards;
+      standards = omega (arith, r .2 .standards);
       timings = omega (arith, r .2 .timings);
       points = r .2 .points;
       descriptors = r .2 .descriptors;

@@ -3,21 +3,16 @@ use Prim.Native.Nat.{ℕ, _≤_}
 use mathlib.Core.Path.{_≡_, sym, ap, _∙_}
 use mathlib.Core.List.{List}
 use native.Mathlib.Omega.{arith}
-use lib.ListN.{length}
 use Rattle.steps.specs.declared.Refusal.{Refusal}
 use Rattle.standard_record.specs.Filler.{blank}
 use Rattle.standard_record.specs.Seen.{seen, Same, holding, shows}
 use Rattle.standard_record.specs.declared.Verdict.the-variants.{Accepted, Refused}
 use Rattle.standard_slots.specs.Spans.{Sounds}
 use Rattle.standard_reading.specs.Block.{plain, recordOf, beside, standardOf}
-use Rattle.standard_reading.specs.Judged.{end-is-verdict, bounded, accepted-128, sounds}
+use Rattle.standard_reading.specs.Judged.{end-is-verdict, bounded, sounds}
 use Rattle.standard_reading.specs.Room.{fits, accepted}
 
 -- ---- an accepted block
-
--- it has 128 bytes
-pub accepted-has-128 : (s : List ℕ) → standardOf s .end ≡ Accepted → length s ≡ 128
-accepted-has-128 s e = accepted-128 s e
 
 -- its record shows what the block says: nothing is dropped
 pub nothing-dropped : (s : List ℕ) → standardOf s .end ≡ Accepted → seen (standardOf s .edid) ≡ plain s

@@ -48,7 +48,7 @@ accepted-by (got a n) h e = (a, refl)
 accepted-by (refused k n) h e = absurd (omega (arith, h k n refl))
 
 pub number-at-most-6 : (s : List ℕ) → numberOf (answer s) ≤ 6
-number-at-most-6 s = number-by (answer s) (numbered reading _ s 0 ends-reading)
+number-at-most-6 s = omega (arith, number-by (answer s) (numbered reading _ s 0 ends-reading))
 
 pub zero-is-accepted : (s : List ℕ) → numberOf (answer s) ≡ 0 → (e : EDID) × (answer s ≡ got e (taken (answer s)))
 zero-is-accepted s = accepted-by (answer s) (numbered reading _ s 0 ends-reading)

@@ -50,9 +50,9 @@ module _ (s : List ℕ) where
   bounded f e = subst Bounded (sym (end-is-verdict s) ∙ e) (bounded-after 4 (omega arith))
 
   -- an accepted block has 128 bytes
-  pub accepted-128 : standardOf s .end ≡ Accepted → length s ≡ 128
+  pub accepted-has-128 : standardOf s .end ≡ Accepted → length s ≡ 128
   unfolding judged
-  accepted-128 e = has-128 s (then-first _ _ (then-first _ _ (then-first _ _ (then-first _ _ (sym (end-is-verdict s) ∙ e)))))
+  accepted-has-128 e = has-128 s (then-first _ _ (then-first _ _ (then-first _ _ (then-first _ _ (sym (end-is-verdict s) ∙ e)))))
 
   -- the spans of n slots end before byte 126
   sounds-after : length s ≡ 128 → (n : ℕ) → n ≤ 4 → Sounds s (descriptorsOf s n) 126
@@ -62,4 +62,4 @@ module _ (s : List ℕ) where
       (sounds-after whole n (omega arith)) (sound-slot s (start n) _ (omega arith) (omega arith) n)
 
   pub sounds : standardOf s .end ≡ Accepted → Sounds s (descriptorsOf s 4) 126
-  sounds e = sounds-after (accepted-128 e) 4 (omega arith)
+  sounds e = sounds-after (accepted-has-128 e) 4 (omega arith)
