@@ -1,5 +1,5 @@
 #!/usr/bin/env python3
-"""The standard reading of EDID blocks, written from document 01 alone: the expected output of the replay.
+"""The standard reading of EDID blocks, written from document 01 and order 1 of document 02 alone: the expected output of the replay.
 
 Standard input holds frames: a length of two bytes, the low one first, then that many bytes. Standard output gets each frame's
 listing, then `--`.
@@ -124,7 +124,8 @@ def text(name, part, at):
     length = part.find(0x0A)
     if length < 0:
         length = 13
-    must(part[length + 1:], 0x20, 5, at)
+    if part[length + 1:].translate(None, b" \0"):
+        raise Refused(5, at)
     return line(name, at + 5, length)
 
 

@@ -82,6 +82,7 @@ cases =
     crate-reads (set specimen 62 0x80) (got (specimenWith (lobby 128 0) [] named) 127) ∷
     crate-reads (set specimen 62 0x81) (refused 6 66) ∷
     crate-reads (set specimen 83 0x21) (refused 5 84) ∷
+    crate-reads (with (0x00 ∷ 0x00 ∷ 0x00 ∷ 0x00 ∷ 0x00 ∷ 0x00 ∷ 0x00 ∷ []) 83 90) (refused 5 84) ∷
     crate-reads (with (white-slot []) 72 90) (refused 4 93) ∷
     standard-reads specimen (specimenShows 800) ∷
     standard-reads (take 127 specimen) (blankBeside 7 0) ∷
@@ -92,10 +93,16 @@ cases =
     standard-reads (set (set (set specimen 54 0) 55 0) 127 0x72) (blankBeside 3 54) ∷
     standard-reads (set (set specimen 75 0xfa) 127 0xc5) (blankBeside 4 72) ∷
     standard-reads (set (set specimen 83 0x21) 127 0xc2) (blankBeside 5 72) ∷
+    standard-reads (set (with (0x00 ∷ 0x00 ∷ 0x00 ∷ 0x00 ∷ 0x00 ∷ 0x00 ∷ 0x00 ∷ []) 83 90) 127 0xa3) (specimenShows 800) ∷
+    standard-reads (set (with (0x00 ∷ 0x20 ∷ 0x20 ∷ 0x00 ∷ 0x00 ∷ 0x20 ∷ 0x00 ∷ []) 83 90) 127 0x43) (specimenShows 800) ∷
+    standard-reads (set (with (0x00 ∷ 0x00 ∷ 0x00 ∷ 0x21 ∷ 0x00 ∷ 0x00 ∷ 0x00 ∷ []) 83 90) 127 0x82) (blankBeside 5 72) ∷
+    standard-reads (set (set specimen 79 0x00) 127 0x05) (specimenShows 800) ∷
+    standard-reads (set (set (with (0x0a ∷ 0x20 ∷ 0x00 ∷ []) 87 90) 75 0xfb) 127 0xfa) (blankBeside 5 72) ∷
+    standard-reads (set (set (with (0x0a ∷ 0x20 ∷ 0x20 ∷ 0x20 ∷ 0x20 ∷ 0x20 ∷ 0x00 ∷ []) 101 108) 93 0xfd) 127 0x1c) (blankBeside 5 90) ∷
     standard-reads (set (set specimen 62 0x81) 127 0x6a) (blankBeside 6 54) ∷
     standard-reads fullBlock fullShows ∷
     standard-reads rangeBlock rangeShows ∷ []
 
 pub cases-hold : Hold cases
 unfolding cases shortest longest six fullBlock rangeBlock showing specimenShows fullShows rangeShows specimen lobby specimenWith named byte word long header maker date product version inputOf input sizeOf gammaFrom dpmsOf dpms display color front flagsBy established standardTimingOf pairOf pair pairs scan padding skip span text syncOf fitted axes timingOf timed detailed spaces closing pointOf point ended second points white stringOf string rawOf raw tagged descriptor later slots parts plain reading tagOf standardOf beforeSlots judged recordOf said pointAt rangeIn timingIn productIn colorsIn inputBy imageOf gammaOf featuresOf pointBy flagsOf pairBy secondaryOf closingRefusal rangeRefusal blank backPorch acrossOf downOf ofBits ofInt add div
-cases-hold = (refl, (refl, (refl, (refl, (refl, (refl, (refl, (refl, (refl, (refl, (refl, (refl, (refl, (refl, (refl, (refl, (refl, (refl, (refl, (refl, (refl, (refl, (refl, (refl, (refl, tt)))))))))))))))))))))))))
+cases-hold = (refl, (refl, (refl, (refl, (refl, (refl, (refl, (refl, (refl, (refl, (refl, (refl, (refl, (refl, (refl, (refl, (refl, (refl, (refl, (refl, (refl, (refl, (refl, (refl, (refl, (refl, (refl, (refl, (refl, (refl, (refl, (refl, tt))))))))))))))))))))))))))))))))

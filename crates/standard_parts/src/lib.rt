@@ -22,7 +22,7 @@ ghost use Rattle.standard_parts.specs.Head.{letterOf, makerOf, inputOf, 
 ghost use Rattle.standard_parts.specs.Color.{chromaticityOf, pointOf};
 ghost use Rattle.standard_parts.specs.Timings.{flagsOf, ratioOf, pairOf};
 ghost use Rattle.standard_parts.specs.Descriptors.{limitsOf, secondaryOf, closingRefusal, rangeRefusal};
-ghost use Rattle.standard_parts.specs.Text.{textLength, allSpaces, isPadded};
+ghost use Rattle.standard_parts.specs.Text.{textLength, spacesOr, allSpaces, isPadded};
 
 // What two bytes of a standard timing say.
 pub enum Pair {
@@ -294,12 +294,13 @@ pub fn text_length(s: &[u8]) -> usize
     }
 }
 
-pub fn all_spaces(s: &[u8]) -> bool
-    ensures { λ r. ⌜ r ≡ allSpaces (now (s .entry)) ⌝ }
+// Each byte is 0x20 or `other`.
+fn spaces_or(other: u8, s: &[u8]) -> bool
+    ensures { λ r. ⌜ r ≡ spacesOr other (now (s .entry)) ⌝ }
 {
     let mut i = 0;
     while i < s.len() {
-        if s[i] != 0x20 {
+        if s[i] != 0x20 && s[i] != other {
             return false;
         }
         i += 1;
@@ -307,11 +308,17 @@ pub fn all_spaces(s: &[u8]) -> bool
     true
 }
 
+pub fn all_spaces(s: &[u8]) -> bool
+    ensures { λ r. ⌜ r ≡ allSpaces (now (s .entry)) ⌝ }
+{
+    spaces_or(0x20, s)
+}
+
 pub fn is_padded(s: &[u8], n: usize) -> bool
     ensures { λ r. ⌜ r ≡ isPadded (now (s .entry)) n ⌝ }
 {
     if n < s.len() {
-        all_spaces(&s[n + 1..])
+        spaces_or(0x00, &s[n + 1..])
     } else {
         true
     }
