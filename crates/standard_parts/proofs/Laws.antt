@@ -1,6 +1,6 @@
 -- A turn of each loop over a text, and the rest of a list. Assumes nothing.
 use mathlib.Core.Path.{_≡_}
-use mathlib.Core.Bool.{true, false, _||_}
+use mathlib.Core.Bool.{Bool, true, false}
 use mathlib.Core.List.{List}
 use Prim.Native.Nat.{ℕ, suc, _+_, _-_, _<_, _≤_}
 use native.Mathlib.Numerals.{add-one}
@@ -8,7 +8,7 @@ use native.Mathlib.Omega.{arith}
 use lib.Dec.{eqb}
 use lib.ListN.{length, getD, take, drop, length-drop, drop-of-length-le}
 use lib.Seq.{drop-cons, take-length}
-use Rattle.standard_parts.specs.Text.{textLength, spacesOr}
+use Rattle.standard_parts.specs.Text.{textLength, every}
 
 -- i bytes are passed, and none of them is 0x0a
 module _ (s : List ℕ) (i : ℕ) (so-far : textLength s ≡ i + textLength (drop i s)) where
@@ -27,15 +27,15 @@ module _ (s : List ℕ) (i : ℕ) (so-far : textLength s ≡ i + textLength (dro
       let none : textLength (drop i s) ≡ 0 = rw (drop-of-length-le s h) in
       omega arith
 
-module _ (other : ℕ) (s : List ℕ) (i : ℕ) where
-  pub spaces-not : i < length s → (eqb (getD s i 0) 0x20 || eqb (getD s i 0) other) ≡ false → spacesOr other (drop i s) ≡ false
-  spaces-not h e = rw (drop-cons s i 0, e)
+module _ (passes : ℕ → Bool) (s : List ℕ) (i : ℕ) where
+  pub every-not : i < length s → passes (getD s i 0) ≡ false → every passes (drop i s) ≡ false
+  every-not h e = rw (drop-cons s i 0, e)
 
-  pub spaces-on : i < length s → (eqb (getD s i 0) 0x20 || eqb (getD s i 0) other) ≡ true → spacesOr other (drop i s) ≡ spacesOr other (drop (i + 1) s)
-  spaces-on h e = rw (add-one, drop-cons s i 0, e)
+  pub every-on : i < length s → passes (getD s i 0) ≡ true → every passes (drop i s) ≡ every passes (drop (i + 1) s)
+  every-on h e = rw (add-one, drop-cons s i 0, e)
 
-  pub spaces-end : length s ≤ i → spacesOr other (drop i s) ≡ true
-  spaces-end h = rw (drop-of-length-le s h)
+  pub every-end : length s ≤ i → every passes (drop i s) ≡ true
+  every-end h = rw (drop-of-length-le s h)
 
 -- the part of a list from k to its end
 pub rest-of : (s : List ℕ) (k : ℕ) → take (length s - k) (drop k s) ≡ drop k s

@@ -10,15 +10,19 @@ abbrev pub textLength : List ℕ → ℕ
 textLength [] = 0
 textLength (b ∷ bs) = cond (eqb b 0x0a) 0 (suc (textLength bs))
 
--- each byte is 0x20 or `other`
-abbrev pub spacesOr : ℕ → List ℕ → Bool
-spacesOr other [] = true
-spacesOr other (b ∷ bs) = cond (eqb b 0x20 || eqb b other) (spacesOr other bs) false
+-- each byte passes
+abbrev pub every : (ℕ → Bool) → List ℕ → Bool
+every passes [] = true
+every passes (b ∷ bs) = cond (passes b) (every passes bs) false
 
--- the padding of fb and fd is 0x20 alone
+-- the padding of fb and fd: 0x20
 abbrev pub allSpaces : List ℕ → Bool
-allSpaces = spacesOr 0x20
+allSpaces = every (λ b. eqb b 0x20)
 
--- the padding of a text, all that follows the byte at n, is 0x20 or 0x00 at each byte
+-- 0x20 or `other` at each byte
+abbrev pub spacesOr : ℕ → List ℕ → Bool
+spacesOr other = every (λ b. eqb b 0x20 || eqb b other)
+
+-- the padding of a text, all that follows the byte at n: 0x20 or 0x00 at each byte
 abbrev pub isPadded : List ℕ → ℕ → Bool
 isPadded bs n = spacesOr 0x00 (drop (n + 1) bs)

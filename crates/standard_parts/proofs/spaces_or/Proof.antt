@@ -9,7 +9,7 @@ use denote.Ref.{now}
 use borrow.Author.Needs.{needs}
 use borrow.Author.Tests.{eq-eqb, ne-eqb, not-true, not-false}
 use Rattle.standard_parts.specs.Text.{spacesOr}
-use Rattle.standard_parts.proofs.Laws.{spaces-not, spaces-on, spaces-end}
+use Rattle.standard_parts.proofs.Laws.{every-not, every-on, every-end}
 use Rattle.standard_parts.proofs.spaces_or.Statement.{statement}
 use Rattle.standard_parts.proofs.spaces_or.Tie as tie
 
@@ -26,7 +26,7 @@ returns : tie.Need-returns Inv-loop μ-loop
 returns c =
     let t = c .before .before in
     let l = t .before .before in
-    sym (l .before .loop .inv .1 ∙ spaces-not _ _ _ (l .loop-test .taken) (ap₂ _||_ (ne-eqb _ _ (t .if1 .taken)) (not-true _ (c .if2 .taken))))
+    sym (l .before .loop .inv .1 ∙ every-not _ _ _ (l .loop-test .taken) (ap₂ _||_ (ne-eqb _ _ (t .if1 .taken)) (not-true _ (c .if2 .taken))))
 
 loop-again : tie.Need-loop-again Inv-loop μ-loop
 loop-again c =
@@ -37,10 +37,10 @@ loop-again c =
     ⊎-elim (λ w. ap₂ _||_ (ne-eqb _ _ (w .0 .taken)) (not-false _ (w .2 .left))) (λ w. ap (λ (t : Bool). t || eqb b (a .other)) (eq-eqb _ _ (w .left)))
     (c .if1 .came)
     in
-    (search needs, l .before .loop .inv .1 ∙ spaces-on _ _ _ (l .loop-test .taken) passes)
+    (search needs, l .before .loop .inv .1 ∙ every-on _ _ _ (l .loop-test .taken) passes)
 
 returns-2 : tie.Need-returns-2 Inv-loop μ-loop
-returns-2 c = sym (c .before .loop .inv .1 ∙ spaces-end _ _ _ (c .loop-test .left))
+returns-2 c = sym (c .before .loop .inv .1 ∙ every-end _ _ _ (c .loop-test .left))
 
 pub spaces-or-spec : {M : Type 1} → statement M
 spaces-or-spec =
