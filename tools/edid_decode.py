@@ -68,12 +68,12 @@ def our_facts(listing, block):
                 size, rate = ESTABLISHED[int(k)].split()
                 facts.append((kind, size, float(rate)))
         elif kind == "standard":
-            width, across, down, rate = map(int, words)
+            width, across, down, rate, _ = map(int, words)
             facts.append((kind, f"{width}x{width * down // across}", float(rate)))
         elif kind == "detailed":
-            facts.append((kind, our_timing(*map(int, words)), ""))
+            facts.append((kind, our_timing(*map(int, words[:-1])), ""))
         elif kind in TEXTS.values():
-            start, length = map(int, words)
+            start, length, _ = map(int, words)
             facts.append((kind, block[start:start + length].decode("latin-1"), ""))
         elif kind == "range":
             low, high, low_line, high_line, clock = map(int, words[:5])

@@ -1,5 +1,5 @@
 #!/usr/bin/env python3
-"""The standard reading of EDID blocks, written from document 01 and order 1 of document 02 alone: the expected output of the replay.
+"""The standard reading of EDID blocks, written from document 01 and orders 1 and 2 of document 02 alone: the expected output of the replay.
 
 Standard input holds frames: a length of two bytes, the low one first, then that many bytes. Standard output gets each frame's
 listing, then `--`.
@@ -129,22 +129,22 @@ def text(name, part, at):
     return line(name, at + 5, length)
 
 
-def descriptor(slot, at, lists):
+def descriptor(slot, at):
+    """The list that a slot without a clock feeds, and its entries."""
     tag, data = slot[3], slot[5:18]
     if tag == 0xFA:
         must(slot[17:18], 0x0A, 4, at)
-        lists["standard"] += pairs(data[:12])
-    elif tag == 0xFB:
+        return "standard", [*pairs(data[:12])]
+    if tag == 0xFB:
         must(slot[15:16], 0x0A, 4, at)
         must(slot[16:18], 0x20, 5, at)
-        lists["white"] += [*white(data[:5]), *white(data[5:10])]
-    elif tag in TEXTS:
-        lists["descriptor"].append(text(TEXTS[tag], data, at))
-    elif tag == 0xFD:
+        return "white", [*white(data[:5]), *white(data[5:10])]
+    if tag in TEXTS:
+        return "descriptor", [text(TEXTS[tag], data, at)]
+    if tag == 0xFD:
         limits = (slot[5], slot[6], slot[7] * 1000, slot[8] * 1000, slot[9] * 10000000)
-        lists["descriptor"].append(line("range", *limits, *secondary(slot, at)))
-    elif tag != 0x10:
-        lists["descriptor"].append(line("maker" if tag < 0x10 else "undefined", tag, data.hex()))
+        return "descriptor", [line("range", *limits, *secondary(slot, at))]
+    return "descriptor", [line("maker" if tag < 0x10 else "undefined", tag, data.hex())] if tag != 0x10 else []
 
 
 def reading(block):
@@ -152,15 +152,16 @@ def reading(block):
                                (sum(block) % 256 == 0, 8, 127), (block[18:19] == b"\1", 9, 18)):
         if not passed:
             raise Refused(number, at)
-    lists = {"white": [], "standard": list(pairs(block[38:54])), "detailed": [], "descriptor": []}
+    lists = {"white": [], "standard": [line(pair, 0) for pair in pairs(block[38:54])], "detailed": [], "descriptor": []}
     for at in SLOTS:
         slot = block[at:at + 18]
         if little(slot[0:2]):
-            lists["detailed"].append(detailed(slot, at))
+            kind, entries = "detailed", [detailed(slot, at)]
         elif at == SLOTS[0]:
             raise Refused(3, at)
         else:
-            descriptor(slot, at, lists)
+            kind, entries = descriptor(slot, at)
+        lists[kind] += [line(entry, at // 18 - 2) for entry in entries]
     features = block[24]
     return [
         "accept",

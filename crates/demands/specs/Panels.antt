@@ -2,16 +2,18 @@
 -- with a white point and ranges.
 use Prim.Native.Nat.{ℕ}
 use mathlib.Core.Bool.{true, false}
-use mathlib.Core.List.{List, [], _∷_, _++_}
+use mathlib.Core.List.{List, [], _∷_, _++_, map}
 use lib.ListN.{take, drop}
 use Rattle.fixed.specs.Fixed.{pad}
 use Rattle.timing.specs.Axis.{pixels, lines}
 use Rattle.timing.specs.declared.SyncPolarity.the-variants.{Positive}
 use Rattle.timing.specs.declared.StereoType.the-variants as Stereo
 use Rattle.standard_record.specs.Filler.{blank, blankWhite, blankStandard, blankDetailed, blankHeld}
+use Rattle.standard_record.specs.Held.{heldPoint, heldPair, heldTiming, held}
 use Rattle.standard_record.specs.declared.Chromaticity.{Chromaticity}
-use Rattle.standard_record.specs.declared.WhitePoint.{WhitePoint}
+use Rattle.standard_record.specs.declared.HeldPoint.{HeldPoint}
 use Rattle.standard_record.specs.declared.StandardTiming.{StandardTiming}
+use Rattle.standard_record.specs.declared.HeldPair.{HeldPair}
 use Rattle.standard_record.specs.declared.DetailedTiming.{DetailedTiming}
 use Rattle.standard_record.specs.declared.Held.{Held}
 use Rattle.standard_record.specs.declared.Descriptor.{Descriptor}
@@ -73,7 +75,7 @@ lobbyTiming active = record {
 }
 
 -- the specimen's record with this input, these pixels across, and these lists: an array and a length each
-unfoldable pub showing : VideoInput → ℕ → List WhitePoint → ℕ → List StandardTiming → ℕ → List Held → ℕ → StandardReading
+unfoldable pub showing : VideoInput → ℕ → List HeldPoint → ℕ → List HeldPair → ℕ → List Held → ℕ → StandardReading
 showing input active points pointed standards listed entries entered =
     record {
       edid = record {
@@ -100,7 +102,7 @@ showing input active points pointed standards listed entries entered =
         timings = record {
           established = record { items = pad 17 0 (0 ∷ 11 ∷ 16 ∷ []); len = 3 };
           standard = record { items = standards; len = listed };
-          detailed = record { items = lobbyTiming active ∷ blankDetailed ∷ blankDetailed ∷ blankDetailed ∷ []; len = 1 };
+          detailed = record { items = heldTiming .wrap 1 (lobbyTiming active) ∷ blankDetailed ∷ blankDetailed ∷ blankDetailed ∷ []; len = 1 };
         };
         descriptors = record { items = entries; len = entered };
         extensions = 0;
@@ -111,30 +113,33 @@ showing input active points pointed standards listed entries entered =
 abbrev mode : ℕ → ℕ → ℕ → ℕ → StandardTiming
 mode width w h rate = record { width = width; ratio = record { width = w; height = h }; rate = rate }
 
-abbrev holds : Descriptor → Held
-holds d = record { descriptor = d }
-
 unfoldable pub specimenShows : ℕ → StandardReading
 specimenShows active =
-    showing (Digital true) active (pad 6 blankWhite []) 0 (pad 26 blankStandard (mode 1280 5 4 60 ∷ [])) 1 (
-    holds (Name (record { start = 77; len = 5 })) ∷
-    holds (MakerDefined 0 (record { start = 95; len = 13 })) ∷
-    holds (MakerDefined 0 (record { start = 113; len = 13 })) ∷ []) 3
+    showing (Digital true) active (pad 6 blankWhite []) 0 (pad 26 blankStandard (heldPair .wrap 0 (mode 1280 5 4 60) ∷ [])) 1 (
+    held .wrap 2 (Name (record { start = 77; len = 5 })) ∷
+    held .wrap 3 (MakerDefined 0 (record { start = 95; len = 13 })) ∷
+    held .wrap 4 (MakerDefined 0 (record { start = 113; len = 13 })) ∷ []) 3
 
 unfoldable pub fullShows : StandardReading
 fullShows =
     showing (Analog 1 false (record { serrated = true; green = true; composite = false; separate = true })) 800 (pad 6 blankWhite []) 0 (
+    map (heldPair .wrap 0) (
     mode 256 16 10 60 ∷ mode 264 4 3 61 ∷ mode 272 5 4 62 ∷ mode 280 16 9 63 ∷ mode 288 16 10 64 ∷ mode 296 4 3 65 ∷
-    mode 304 5 4 66 ∷ mode 312 16 9 67 ∷ mode 320 16 10 68 ∷ mode 328 4 3 69 ∷ mode 336 5 4 70 ∷ mode 344 16 9 71 ∷
-    mode 352 16 10 72 ∷ mode 360 4 3 73 ∷ mode 368 5 4 74 ∷ mode 376 16 9 75 ∷ mode 384 16 10 76 ∷ mode 392 4 3 77 ∷
-    mode 400 5 4 78 ∷ mode 408 16 9 79 ∷ mode 416 16 10 80 ∷ mode 424 4 3 81 ∷ mode 432 5 4 82 ∷ mode 440 16 9 83 ∷
-    mode 448 16 10 84 ∷ mode 456 4 3 85 ∷ []) 26 (pad 3 blankHeld []) 0
+    mode 304 5 4 66 ∷ mode 312 16 9 67 ∷ [])
+    ++ map (heldPair .wrap 2) (
+    mode 320 16 10 68 ∷ mode 328 4 3 69 ∷ mode 336 5 4 70 ∷ mode 344 16 9 71 ∷ mode 352 16 10 72 ∷ mode 360 4 3 73 ∷ [])
+    ++ map (heldPair .wrap 3) (
+    mode 368 5 4 74 ∷ mode 376 16 9 75 ∷ mode 384 16 10 76 ∷ mode 392 4 3 77 ∷ mode 400 5 4 78 ∷ mode 408 16 9 79 ∷ [])
+    ++ map (heldPair .wrap 4) (
+    mode 416 16 10 80 ∷ mode 424 4 3 81 ∷ mode 432 5 4 82 ∷ mode 440 16 9 83 ∷ mode 448 16 10 84 ∷ mode 456 4 3 85 ∷ []))
+    26 (pad 3 blankHeld []) 0
 
 -- 56 to 75 Hz, 30 to 83 kHz, 150 MHz
-abbrev ranged : SecondaryTiming → Held
-ranged t = holds (Range (record { vmin = 56; vmax = 75; hmin = 30000; hmax = 83000; clock = 150000000 }) t)
+abbrev ranged : SecondaryTiming → Descriptor
+ranged t = Range (record { vmin = 56; vmax = 75; hmin = 30000; hmax = 83000; clock = 150000000 }) t
 
 unfoldable pub rangeShows : StandardReading
 rangeShows =
-    showing (Digital true) 800 (pad 6 blankWhite (record { index = 2; place = record { x = 322; y = 338 }; gamma = Gamma.None } ∷ [])) 1
-    (pad 26 blankStandard (mode 1280 5 4 60 ∷ [])) 1 (pad 3 blankHeld (ranged (GTF 80000 80 0 128 40) ∷ ranged None ∷ [])) 2
+    showing (Digital true) 800 (pad 6 blankWhite (heldPoint .wrap 2 (record { index = 2; place = record { x = 322; y = 338 }; gamma = Gamma.None }) ∷ [])) 1
+    (pad 26 blankStandard (heldPair .wrap 0 (mode 1280 5 4 60) ∷ [])) 1
+    (pad 3 blankHeld (held .wrap 3 (ranged (GTF 80000 80 0 128 40)) ∷ held .wrap 4 (ranged None) ∷ [])) 2

@@ -1,16 +1,22 @@
 -- What holds of every answer of the standard reading, read off its definition.
-use Prim.Native.Nat.{ℕ, _≤_}
+use Prim.Native.Nat.{ℕ, _+_, _≤_, _<_}
 use mathlib.Core.Path.{_≡_, sym, ap, _∙_}
-use mathlib.Core.List.{List}
+use mathlib.Core.List.{List, [], _++_, map}
 use native.Mathlib.Omega.{arith}
+use Rattle.fixed.specs.Numbered.{turns}
 use Rattle.steps.specs.declared.Refusal.{Refusal}
 use Rattle.standard_record.specs.Filler.{blank}
+use Rattle.standard_record.specs.Held.{heldPair}
 use Rattle.standard_record.specs.Seen.{seen, Same, holding, shows}
 use Rattle.standard_record.specs.declared.Verdict.the-variants.{Accepted, Refused}
+use Rattle.standard_slots.specs.Said.{four, lists, pairsAt}
+use Rattle.standard_slots.specs.Few.{OneKind, one-kind}
 use Rattle.standard_slots.specs.Spans.{Sounds}
+use Rattle.standard_reading.specs.Slots.{saidIn}
 use Rattle.standard_reading.specs.Block.{plain, recordOf, beside, standardOf}
 use Rattle.standard_reading.specs.Judged.{end-is-verdict, bounded, sounds}
 use Rattle.standard_reading.specs.Room.{fits, accepted}
+use Rattle.standard_reading.specs.Entries.{entries, NeverFall, never-fall, entries-0, entries-of-slot}
 
 -- ---- an accepted block
 
@@ -33,6 +39,31 @@ known-by-what-it-shows s t e h same =
 -- every span of it lies before the last two bytes, 126 and 127; a text is at most 13 bytes, none of them 0x0a, with 0x0a behind fewer than 13
 pub spans-inside : (s : List ℕ) → standardOf s .end ≡ Accepted → Sounds s (seen (standardOf s .edid) .descriptors) 126
 spans-inside s e = rw (nothing-dropped s e) (sounds s e)
+
+-- ---- the slot numbers of an accepted block
+
+-- along each of the four lists they never fall, and are 0 to 4
+pub slot-numbers-never-fall : (s : List ℕ) → standardOf s .end ≡ Accepted → NeverFall (seen (standardOf s .edid))
+slot-numbers-never-fall s e = rw (nothing-dropped s e) (never-fall s)
+
+-- the entries numbered i + 1 are what slot i says, in its order
+pub entries-are-what-the-slot-says : (s : List ℕ) → standardOf s .end ≡ Accepted → (i : ℕ) → i < 4
+    → entries (i + 1) (seen (standardOf s .edid)) ≡ lists (saidIn s i)
+entries-are-what-the-slot-says s e i h = rw (nothing-dropped s e) (entries-of-slot s i h)
+
+-- so no number 1 to 4 stands in two of the lists
+pub one-slot-one-kind : (s : List ℕ) → standardOf s .end ≡ Accepted → (i : ℕ) → i < 4 → OneKind (entries (i + 1) (seen (standardOf s .edid)))
+one-slot-one-kind s e i h = rw (entries-are-what-the-slot-says s e i h) (one-kind (saidIn s i))
+
+-- the entries numbered 0 are the eight pairs at offset 38
+pub number-0-for-the-eight-pairs : (s : List ℕ) → standardOf s .end ≡ Accepted
+    → entries 0 (seen (standardOf s .edid)) ≡ four [] (pairsAt s 38 8) [] []
+number-0-for-the-eight-pairs s e = rw (nothing-dropped s e) (entries-0 s)
+
+-- these come first
+pub eight-pairs-first : (s : List ℕ) → standardOf s .end ≡ Accepted
+    → seen (standardOf s .edid) .standard ≡ map (heldPair .wrap 0) (pairsAt s 38 8) ++ turns heldPair (λ i. lists (saidIn s i) .pairs) 4
+eight-pairs-first s e = ap (λ x. x .standard) (nothing-dropped s e)
 
 -- ---- a refused block
 

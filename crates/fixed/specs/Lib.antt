@@ -1,3 +1,4 @@
 -- What the fixed lists of both readings rest on.
 pub mod Fixed
 pub mod Gather
+pub mod Numbered

@@ -3,7 +3,7 @@ use mathlib.Core.Bool.{true, false}
 use mathlib.Core.List.{[], _∷_}
 use mathlib.Core.Path.{_≡_, refl}
 use Rattle.page.specs.Words.{text, decimalIn, field, field8, flag, hexDigit, hexOf2, flat, each}
-use Rattle.shared_lines.specs.Lines.{versionLine, digitalLine, dpmsLine, establishedLine, textLine, raw, rawLine, refuseLine}
+use Rattle.shared_lines.specs.Lines.{versionLine, digitalLine, dpmsLine, establishedLine, textFields, textLine, raw, rawFields, rawLine, refuseLine}
 
 version : versionLine 1 3 ≡ text "version 1 3\n"
 unfolding versionLine flat field8 decimalIn
@@ -26,11 +26,11 @@ unfolding establishedLine flat each
 no-flag = refl
 
 name : textLine (text "name") (record { start = 77; len = 5 }) ≡ text "name 77 5\n"
-unfolding textLine flat field decimalIn
+unfolding textLine textFields flat field decimalIn
 name = refl
 
 maker : rawLine (text "maker") (0 ∷ 0 ∷ 254 ∷ 255 ∷ []) 15 (record { start = 2; len = 13 }) ≡ text "maker 15 feff\n"
-unfolding rawLine raw flat each field8 decimalIn hexOf2 hexDigit
+unfolding rawLine rawFields raw flat each field8 decimalIn hexOf2 hexDigit
 maker = refl
 
 refused : refuseLine (record { number = 3; at = 57 }) ≡ text "refuse 3 57\n"

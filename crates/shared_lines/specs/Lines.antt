@@ -73,16 +73,22 @@ polarity Negative = text " 0"
 
 -- ---- a descriptor
 
--- a text, by its word, its start and its length
+-- a text, by its word, its start and its length; in the standard listing more follows in the line
+unfoldable pub textFields : List ℕ → Span → List ℕ
+textFields word d = flat (word ∷ field (d .start) ∷ field (d .len) ∷ [])
+
 unfoldable pub textLine : List ℕ → Span → List ℕ
-textLine word d = flat (word ∷ field (d .start) ∷ field (d .len) ∷ newline ∷ [])
+textLine word d = flat (textFields word d ∷ newline ∷ [])
 
 -- a tag or a kind, and a run of the input s in hexadecimal; a slot holds no run above 13 bytes, and no more are shown
 unfoldable pub raw : List ℕ → ℕ → Span → List ℕ
 raw s n d = flat (field8 n ∷ space ∷ each hexOf2 (take (min (d .len) 13) (drop (d .start) s)) ∷ [])
 
+unfoldable pub rawFields : List ℕ → List ℕ → ℕ → Span → List ℕ
+rawFields word s tag d = flat (word ∷ raw s tag d ∷ [])
+
 unfoldable pub rawLine : List ℕ → List ℕ → ℕ → Span → List ℕ
-rawLine word s tag d = flat (word ∷ raw s tag d ∷ newline ∷ [])
+rawLine word s tag d = flat (rawFields word s tag d ∷ newline ∷ [])
 
 -- the five numbers of a range
 unfoldable pub limits : ℕ → ℕ → ℕ → ℕ → ℕ → List ℕ

@@ -14,7 +14,7 @@ use Rattle.timing.specs.declared.Border.{Border}
 use Rattle.timing.specs.declared.StereoType.{StereoType}
 use Rattle.timing.specs.declared.SyncPolarity.{SyncPolarity}
 use Rattle.timing.specs.declared.SyncPolarity.the-variants.{Positive, Negative}
-use Rattle.shared_lines.specs.Lines.{productNumbers, versionLine, inputFlags, digitalLine, dpmsLine, establishedLine, axes, stereo, borderToStereo, polarity, textLine, raw, rawLine, limits, extensionsLine, refuseLine}
+use Rattle.shared_lines.specs.Lines.{productNumbers, versionLine, inputFlags, digitalLine, dpmsLine, establishedLine, axes, stereo, borderToStereo, polarity, textFields, textLine, raw, rawFields, rawLine, limits, extensionsLine, refuseLine}
 
 pub numbers-length : (code serial week year : ℕ) → length (productNumbers code serial week year) ≤ 28
 unfolding productNumbers flat
@@ -84,18 +84,26 @@ unfolding polarity
 polarity-length Positive = omega arith
 polarity-length Negative = omega arith
 
+pub text-fields-length : (word : List ℕ) (d : Span) → length (textFields word d) ≤ length word + 42
+unfolding textFields flat
+text-fields-length word d = simp length-append (omega (arith, field-length (d .start), field-length (d .len)))
+
 pub text-length : (word : List ℕ) (d : Span) → length (textLine word d) ≤ length word + 43
 unfolding textLine flat
-text-length word d = simp length-append (omega (arith, field-length (d .start), field-length (d .len)))
+text-length word d = simp length-append (omega (arith, text-fields-length word d))
 
 pub raw-length : (s : List ℕ) (n : ℕ) (d : Span) → length (raw s n d) ≤ 31
 unfolding raw flat
 raw-length s n d =
     simp length-append (omega (arith, field8-length n, first-length hexOf2 2 13 byte-length (d .len) (drop (d .start) s)))
 
+pub run-fields-length : (word s : List ℕ) (tag : ℕ) (d : Span) → length (rawFields word s tag d) ≤ length word + 31
+unfolding rawFields flat
+run-fields-length word s tag d = simp length-append (omega (arith, raw-length s tag d))
+
 pub run-length : (word s : List ℕ) (tag : ℕ) (d : Span) → length (rawLine word s tag d) ≤ length word + 32
 unfolding rawLine flat
-run-length word s tag d = simp length-append (omega (arith, raw-length s tag d))
+run-length word s tag d = simp length-append (omega (arith, run-fields-length word s tag d))
 
 pub limits-length : (vmin vmax hmin hmax clock : ℕ) → length (limits vmin vmax hmin hmax clock) ≤ 46
 unfolding limits flat

@@ -166,12 +166,18 @@ pub fn polarity(out: &mut [u8; 4096], at: usize, p: SyncPolarity) -> usize
 
 // ---- a descriptor
 
-pub fn text_line(out: &mut [u8; 4096], at: usize, word: &[u8], d: Span) -> usize
-    ensures { λ r. ⌜ page (now (out .exit)) r ≡ page (now (out .entry)) at ▷ lines.textLine (now (word .entry)) d ⌝ }
+pub fn text_fields(out: &mut [u8; 4096], at: usize, word: &[u8], d: Span) -> usize
+    ensures { λ r. ⌜ page (now (out .exit)) r ≡ page (now (out .entry)) at ▷ lines.textFields (now (word .entry)) d ⌝ }
 {
     let mut n = page::bytes(out, at, word);
     n = page::field(out, n, d.start);
-    n = page::field(out, n, d.len);
+    page::field(out, n, d.len)
+}
+
+pub fn text_line(out: &mut [u8; 4096], at: usize, word: &[u8], d: Span) -> usize
+    ensures { λ r. ⌜ page (now (out .exit)) r ≡ page (now (out .entry)) at ▷ lines.textLine (now (word .entry)) d ⌝ }
+{
+    let n = text_fields(out, at, word, d);
     page::newline(out, n)
 }
 
@@ -184,11 +190,17 @@ pub fn raw(out: &mut [u8; 4096], at: usize, s: &[u8], k: u8, d: Span) -> usize
     page::hex_span(out, n, s, d.start, len)
 }
 
+pub fn raw_fields(out: &mut [u8; 4096], at: usize, word: &[u8], s: &[u8], tag: u8, d: Span) -> usize
+    ensures { λ r. ⌜ page (now (out .exit)) r ≡ page (now (out .entry)) at ▷ lines.rawFields (now (word .entry)) (now (s .entry)) tag d ⌝ }
+{
+    let n = page::bytes(out, at, word);
+    raw(out, n, s, tag, d)
+}
+
 pub fn raw_line(out: &mut [u8; 4096], at: usize, word: &[u8], s: &[u8], tag: u8, d: Span) -> usize
     ensures { λ r. ⌜ page (now (out .exit)) r ≡ page (now (out .entry)) at ▷ lines.rawLine (now (word .entry)) (now (s .entry)) tag d ⌝ }
 {
-    let mut n = page::bytes(out, at, word);
-    n = raw(out, n, s, tag, d);
+    let n = raw_fields(out, at, word, s, tag, d);
     page::newline(out, n)
 }
 

@@ -32,11 +32,11 @@ gamma-is : gammaLine (Gamma.Some 200) ≡ text "gamma 200\n"
 unfolding gammaLine gamma flat field16 decimalIn
 gamma-is = refl
 
-white : whiteLine (record { index = 1; place = record { x = 320; y = 337 }; gamma = Gamma.None }) ≡ text "white 1 320 337 none\n"
+white : whiteLine (record { point = record { index = 1; place = record { x = 320; y = 337 }; gamma = Gamma.None }; slot = 3 }) ≡ text "white 1 320 337 none 3\n"
 unfolding whiteLine gamma flat field8 field16 decimalIn
 white = refl
 
-standard : standardLine (record { width = 1280; ratio = record { width = 5; height = 4 }; rate = 60 }) ≡ text "standard 1280 5 4 60\n"
+standard : standardLine (record { pair = record { width = 1280; ratio = record { width = 5; height = 4 }; rate = 60 }; slot = 0 }) ≡ text "standard 1280 5 4 60 0\n"
 unfolding standardLine flat field16 decimalIn
 standard = refl
 

@@ -19,9 +19,9 @@ use Rattle.standard_record.specs.declared.DisplayType.the-variants as Kind
 use Rattle.standard_record.specs.declared.Features.{Features}
 use Rattle.standard_record.specs.declared.Display.{Display}
 use Rattle.standard_record.specs.declared.Chromaticities.{Chromaticities}
-use Rattle.standard_record.specs.declared.WhitePoint.{WhitePoint}
+use Rattle.standard_record.specs.declared.HeldPoint.{HeldPoint}
 use Rattle.standard_record.specs.declared.WhitePoints.{WhitePoints}
-use Rattle.standard_record.specs.declared.StandardTiming.{StandardTiming}
+use Rattle.standard_record.specs.declared.HeldPair.{HeldPair}
 use Rattle.standard_record.specs.declared.StandardTimings.{StandardTimings}
 use Rattle.standard_record.specs.declared.StandardRecord.{StandardRecord}
 use Rattle.standard_record.specs.declared.Verdict.{Verdict}
@@ -78,9 +78,11 @@ chromaLine c = flat (
     field16 (c .blue .x) ∷ field16 (c .blue .y) ∷ field16 (c .white .x) ∷ field16 (c .white .y) ∷
     newline ∷ [])
 
-unfoldable pub whiteLine : WhitePoint → List ℕ
-whiteLine w = flat (
-    text "white" ∷ field8 (w .index) ∷ field16 (w .place .x) ∷ field16 (w .place .y) ∷ gamma (w .gamma) ∷ newline ∷ [])
+-- the slot's number last, as in each line of an entry
+unfoldable pub whiteLine : HeldPoint → List ℕ
+whiteLine h = let w = h .point in flat (
+    text "white" ∷ field8 (w .index) ∷ field16 (w .place .x) ∷ field16 (w .place .y) ∷ gamma (w .gamma) ∷ field16 (h .slot) ∷
+    newline ∷ [])
 
 -- in this list and the others, a length above the list's size counts as that size
 unfoldable pub whiteLines : WhitePoints → List ℕ
@@ -88,9 +90,9 @@ whiteLines l = each whiteLine (take (min (l .len) 6) (l .items))
 
 -- ---- timings
 
-unfoldable pub standardLine : StandardTiming → List ℕ
-standardLine t = flat (
-    text "standard" ∷ field16 (t .width) ∷ field16 (t .ratio .width) ∷ field16 (t .ratio .height) ∷ field16 (t .rate) ∷
+unfoldable pub standardLine : HeldPair → List ℕ
+standardLine h = let t = h .pair in flat (
+    text "standard" ∷ field16 (t .width) ∷ field16 (t .ratio .width) ∷ field16 (t .ratio .height) ∷ field16 (t .rate) ∷ field16 (h .slot) ∷
     newline ∷ [])
 
 unfoldable pub standardLines : StandardTimings → List ℕ

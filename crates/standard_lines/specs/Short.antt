@@ -19,9 +19,9 @@ use Rattle.standard_record.specs.declared.Gamma.{Gamma}
 use Rattle.standard_record.specs.declared.Gamma.the-variants as Gamma
 use Rattle.standard_record.specs.declared.Display.{Display}
 use Rattle.standard_record.specs.declared.Chromaticities.{Chromaticities}
-use Rattle.standard_record.specs.declared.WhitePoint.{WhitePoint}
+use Rattle.standard_record.specs.declared.HeldPoint.{HeldPoint}
 use Rattle.standard_record.specs.declared.WhitePoints.{WhitePoints}
-use Rattle.standard_record.specs.declared.StandardTiming.{StandardTiming}
+use Rattle.standard_record.specs.declared.HeldPair.{HeldPair}
 use Rattle.standard_record.specs.declared.StandardTimings.{StandardTimings}
 use Rattle.standard_record.specs.declared.StandardRecord.{StandardRecord}
 use Rattle.standard_record.specs.declared.Verdict.{Verdict}
@@ -92,27 +92,43 @@ chroma-length c =
       field16-length (c .white .y),
     ))
 
-white-length : (w : WhitePoint) → length (whiteLine w) ≤ 28
+white-length : (h : HeldPoint) → length (whiteLine h) ≤ 34
 unfolding whiteLine flat
-white-length w =
+white-length h =
+    let w = h .point in
     simp length-append
-    (omega (arith, field8-length (w .index), field16-length (w .place .x), field16-length (w .place .y), gamma-length (w .gamma)))
+    (omega (
+      arith,
+      field8-length (w .index),
+      field16-length (w .place .x),
+      field16-length (w .place .y),
+      gamma-length (w .gamma),
+      field16-length (h .slot),
+    ))
 
-white-lengths : (l : WhitePoints) → length (whiteLines l) ≤ 168
+white-lengths : (l : WhitePoints) → length (whiteLines l) ≤ 204
 unfolding whiteLines
-white-lengths l = first-length whiteLine 28 6 white-length (l .len) (l .items)
+white-lengths l = first-length whiteLine 34 6 white-length (l .len) (l .items)
 
-standard-length : (t : StandardTiming) → length (standardLine t) ≤ 33
+standard-length : (h : HeldPair) → length (standardLine h) ≤ 39
 unfolding standardLine flat
-standard-length t =
+standard-length h =
+    let t = h .pair in
     simp length-append
-    (omega (arith, field16-length (t .width), field16-length (t .ratio .width), field16-length (t .ratio .height), field16-length (t .rate)))
+    (omega (
+      arith,
+      field16-length (t .width),
+      field16-length (t .ratio .width),
+      field16-length (t .ratio .height),
+      field16-length (t .rate),
+      field16-length (h .slot),
+    ))
 
-standard-lengths : (l : StandardTimings) → length (standardLines l) ≤ 858
+standard-lengths : (l : StandardTimings) → length (standardLines l) ≤ 1014
 unfolding standardLines
-standard-lengths l = first-length standardLine 33 26 standard-length (l .len) (l .items)
+standard-lengths l = first-length standardLine 39 26 standard-length (l .len) (l .items)
 
-record-length : (s : List ℕ) (e : StandardRecord) → length (recordLines s e) ≤ 1980
+record-length : (s : List ℕ) (e : StandardRecord) → length (recordLines s e) ≤ 2214
 unfolding recordLines flat
 record-length s e =
     simp length-append
@@ -130,13 +146,13 @@ record-length s e =
       extensions-length (e .extensions),
     ))
 
-judged-length : (s : List ℕ) (e : StandardRecord) (t : Verdict) → length (judgedLines s e t) ≤ 1987
+judged-length : (s : List ℕ) (e : StandardRecord) (t : Verdict) → length (judgedLines s e t) ≤ 2221
 unfolding judgedLines flat
 judged-length s e Accepted = simp length-append (omega (arith, record-length s e))
 judged-length s e (Refused f) = omega (arith, refuse-length f)
 
 -- of every reading, whatever its record holds
-pub short : (s : List ℕ) (t : StandardReading) → length (listingOf s t) ≤ 1987
+pub short : (s : List ℕ) (t : StandardReading) → length (listingOf s t) ≤ 2221
 unfolding listingOf
 short s t = judged-length s (t .edid) (t .end)
 

@@ -4,15 +4,15 @@ use standard_record::Display;
 use standard_record::DisplayType;
 use standard_record::Features;
 use standard_record::Gamma;
+use standard_record::HeldPair;
+use standard_record::HeldPoint;
 use standard_record::ImageSize;
 use standard_record::Product;
 use standard_record::StandardReading;
 use standard_record::StandardRecord;
-use standard_record::StandardTiming;
 use standard_record::StandardTimings;
 use standard_record::Verdict;
 use standard_record::VideoInput;
-use standard_record::WhitePoint;
 use standard_record::WhitePoints;
 ghost use mathlib.Core.Path.{_≡_};
 ghost use lib.ListN.{take, drop};
@@ -154,15 +154,17 @@ fn chroma_line(out: &mut [u8; 4096], at: usize, c: Chromaticities) -> usize
     page::newline(out, n)
 }
 
-fn white_line(out: &mut [u8; 4096], at: usize, w: WhitePoint) -> usize
-    ensures { λ r. ⌜ page (now (out .exit)) r ≡ page (now (out .entry)) at ▷ lines.whiteLine w ⌝ }
+fn white_line(out: &mut [u8; 4096], at: usize, h: HeldPoint) -> usize
+    ensures { λ r. ⌜ page (now (out .exit)) r ≡ page (now (out .entry)) at ▷ lines.whiteLine h ⌝ }
 {
+    let w = h.point;
     let t = w.gamma;
     let mut n = page::bytes(out, at, b"white");
     n = page::field8(out, n, w.index);
     n = page::field16(out, n, w.place.x);
     n = page::field16(out, n, w.place.y);
     n = gamma(out, n, t);
+    n = page::field16(out, n, h.slot);
     page::newline(out, n)
 }
 
@@ -182,14 +184,16 @@ fn white_lines(out: &mut [u8; 4096], at: usize, l: WhitePoints) -> usize
 
 // ---- timings
 
-fn standard_line(out: &mut [u8; 4096], at: usize, t: StandardTiming) -> usize
-    ensures { λ r. ⌜ page (now (out .exit)) r ≡ page (now (out .entry)) at ▷ lines.standardLine t ⌝ }
+fn standard_line(out: &mut [u8; 4096], at: usize, h: HeldPair) -> usize
+    ensures { λ r. ⌜ page (now (out .exit)) r ≡ page (now (out .entry)) at ▷ lines.standardLine h ⌝ }
 {
+    let t = h.pair;
     let mut n = page::bytes(out, at, b"standard");
     n = page::field16(out, n, t.width);
     n = page::field16(out, n, t.ratio.width);
     n = page::field16(out, n, t.ratio.height);
     n = page::field16(out, n, t.rate);
+    n = page::field16(out, n, h.slot);
     page::newline(out, n)
 }
 

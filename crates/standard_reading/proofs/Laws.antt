@@ -1,16 +1,17 @@
 -- What the proof of the loop over the slots cites: a turn, a refusal, and the lists as the code holds them. Assumes nothing.
 use Prim.Native.Nat.{ℕ, zero, suc, _+_, _-_, _*_, _≤_, _<_}
 use mathlib.Core.Path.{_≡_, ap, _∙_}
-use mathlib.Core.List.{List, _++_, append-assoc}
+use mathlib.Core.List.{List, _++_, map, append-assoc}
 use native.Mathlib.Numerals.{add-one}
 use native.Mathlib.Omega.{arith}
-use lib.ListN.{length, length-append}
+use lib.ListN.{length, length-append, length-map}
 use Rattle.fixed.specs.Gather.{Holds, gather-more, held-at-most}
 use Rattle.steps.specs.declared.Refusal.{Refusal}
 use Rattle.standard_record.specs.Filler.{blankWhite, blankStandard, blankDetailed, blankHeld}
-use Rattle.standard_record.specs.declared.WhitePoint.{WhitePoint}
-use Rattle.standard_record.specs.declared.StandardTiming.{StandardTiming}
-use Rattle.standard_record.specs.declared.DetailedTiming.{DetailedTiming}
+use Rattle.standard_record.specs.Held.{heldPoint, heldPair, heldTiming, held}
+use Rattle.standard_record.specs.declared.HeldPoint.{HeldPoint}
+use Rattle.standard_record.specs.declared.HeldPair.{HeldPair}
+use Rattle.standard_record.specs.declared.HeldTiming.{HeldTiming}
 use Rattle.standard_record.specs.declared.Held.{Held}
 use Rattle.standard_record.specs.declared.Verdict.the-variants.{Accepted, Refused}
 use Rattle.standard_slots.specs.Said.{Said, refusal, pairsAt, lists}
@@ -35,8 +36,8 @@ decides s i n p e h =
     rw z at (stays s (record { number = n; at = start i }) (suc i) (rw (p, e)) (3 - i))
 
 -- the arrays and counts hold what the first i slots list, none of which is refused
-pub record Gathered (s : List ℕ) (i : ℕ) (standards : List StandardTiming) (listed : ℕ) (timings : List DetailedTiming) (timed : ℕ)
-    (points : List WhitePoint) (pointed : ℕ) (entries : List Held) (entered : ℕ) : Type 0 where
+pub record Gathered (s : List ℕ) (i : ℕ) (standards : List HeldPair) (listed : ℕ) (timings : List HeldTiming) (timed : ℕ)
+    (points : List HeldPoint) (pointed : ℕ) (entries : List Held) (entered : ℕ) : Type 0 where
   pub passed : judged s i ≡ Accepted
   pub pairs : Holds 26 blankStandard (pairsOf s i) standards listed
   pub detailed : Holds 4 blankDetailed (timingsOf s i) timings timed
@@ -50,7 +51,7 @@ pub record Bounds (i listed timed pointed entered : ℕ) : Type 0 where
   pub white : pointed ≤ (i - 1) * 2
   pub described : entered ≤ i - 1
 
-module _ {s : List ℕ} {i : ℕ} {st : List StandardTiming} {ns : ℕ} {dt : List DetailedTiming} {nd : ℕ} {wp : List WhitePoint} {np : ℕ} {ds : List Held} {nh : ℕ} (h : Gathered s i st ns dt nd wp np ds nh) where
+module _ {s : List ℕ} {i : ℕ} {st : List HeldPair} {ns : ℕ} {dt : List HeldTiming} {nd : ℕ} {wp : List HeldPoint} {np : ℕ} {ds : List Held} {nh : ℕ} (h : Gathered s i st ns dt nd wp np ds nh) where
   pub bounds : Bounds i ns nd np nh
   bounds =
       record {
@@ -61,10 +62,12 @@ module _ {s : List ℕ} {i : ℕ} {st : List StandardTiming} {ns : ℕ} {dt : Li
       }
 
   -- one slot more, that says x
-  pub one-more : {x : Said} {st′ : List StandardTiming} {ns′ : ℕ} {dt′ : List DetailedTiming} {nd′ : ℕ} {wp′ : List WhitePoint} {np′ : ℕ} {ds′ : List Held} {nh′ : ℕ}
+  pub one-more : {x : Said} {st′ : List HeldPair} {ns′ : ℕ} {dt′ : List HeldTiming} {nd′ : ℕ} {wp′ : List HeldPoint} {np′ : ℕ} {ds′ : List Held} {nh′ : ℕ}
       → saidIn s i ≡ x → judge x (start i) ≡ Accepted
-      → Holds 26 blankStandard (pairsOf s i ++ lists x .pairs) st′ ns′ → Holds 4 blankDetailed (timingsOf s i ++ lists x .timings) dt′ nd′
-      → Holds 6 blankWhite (pointsOf s i ++ lists x .points) wp′ np′ → Holds 3 blankHeld (descriptorsOf s i ++ lists x .descriptors) ds′ nh′
+      → Holds 26 blankStandard (pairsOf s i ++ map (heldPair .wrap (i + 1)) (lists x .pairs)) st′ ns′
+      → Holds 4 blankDetailed (timingsOf s i ++ map (heldTiming .wrap (i + 1)) (lists x .timings)) dt′ nd′
+      → Holds 6 blankWhite (pointsOf s i ++ map (heldPoint .wrap (i + 1)) (lists x .points)) wp′ np′
+      → Holds 3 blankHeld (descriptorsOf s i ++ map (held .wrap (i + 1)) (lists x .descriptors)) ds′ nh′
       → Gathered s (i + 1) st′ ns′ dt′ nd′ wp′ np′ ds′ nh′
   unfolding judged
   one-more e v a b c d =
@@ -77,12 +80,21 @@ module _ {s : List ℕ} {i : ℕ} {st : List StandardTiming} {ns : ℕ} {dt : Li
       }
 
 -- pairs behind those of the first i slots
-pub pairs-so-far : (s t : List ℕ) (i k : ℕ) {st : List StandardTiming} {ns : ℕ} → Holds 26 blankStandard (pairsOf s i ++ pairsAt t 5 k) st ns
-    → ns ≤ 8 + (i - 1) * 6 + k
-pairs-so-far s t i k h = omega (arith, held-at-most h, length-append (pairsOf s i) (pairsAt t 5 k), pairs-room s i, pairs-at-most t 5 k)
+pub pairs-so-far : (s t : List ℕ) (i k : ℕ) {st : List HeldPair} {ns : ℕ}
+    → Holds 26 blankStandard (pairsOf s i ++ map (heldPair .wrap (i + 1)) (pairsAt t 5 k)) st ns → ns ≤ 8 + (i - 1) * 6 + k
+pairs-so-far s t i k h =
+    let w = heldPair .wrap (i + 1) in
+    omega (
+      arith,
+      held-at-most h,
+      length-append (pairsOf s i) (map w (pairsAt t 5 k)),
+      length-map (pairsAt t 5 k) w,
+      pairs-room s i,
+      pairs-at-most t 5 k,
+    )
 
 -- the four slots' lists
-pub lists-are : {s : List ℕ} {st : List StandardTiming} {ns : ℕ} {dt : List DetailedTiming} {nd : ℕ} {wp : List WhitePoint} {np : ℕ} {ds : List Held} {nh : ℕ}
+pub lists-are : {s : List ℕ} {st : List HeldPair} {ns : ℕ} {dt : List HeldTiming} {nd : ℕ} {wp : List HeldPoint} {np : ℕ} {ds : List Held} {nh : ℕ}
     → length s ≡ 128 → Gathered s 4 st ns dt nd wp np ds nh
     → ListsOf s (record { items = wp; len = np }) (record { items = st; len = ns }) (record { items = dt; len = nd }) (record { items = ds; len = nh })
 lists-are e h =

@@ -1,19 +1,20 @@
 -- The standard reading of a block, by fixed offsets.
 use Prim.Native.Nat.{ℕ}
 use mathlib.Core.Path.{_≡_}
-use mathlib.Core.List.{List, _++_}
+use mathlib.Core.List.{List, _++_, map}
 use Rattle.bits.specs.Bytes.{_!_}
-use Rattle.fixed.specs.Gather.{gather}
+use Rattle.fixed.specs.Numbered.{turns}
 use Rattle.steps.specs.One.{one-value}
 use Rattle.standard_record.specs.Filler.{blank}
+use Rattle.standard_record.specs.Held.{heldPoint, heldPair, heldTiming, held}
 use Rattle.standard_record.specs.Seen.{Seen, holding}
 use Rattle.standard_record.specs.declared.Verdict.{Verdict}
 use Rattle.standard_record.specs.declared.Verdict.the-variants.{Accepted, Refused}
 use Rattle.standard_record.specs.declared.StandardRecord.{StandardRecord}
 use Rattle.standard_record.specs.declared.StandardReading.{StandardReading}
-use Rattle.standard_record.specs.declared.WhitePoint.{WhitePoint}
-use Rattle.standard_record.specs.declared.StandardTiming.{StandardTiming}
-use Rattle.standard_record.specs.declared.DetailedTiming.{DetailedTiming}
+use Rattle.standard_record.specs.declared.HeldPoint.{HeldPoint}
+use Rattle.standard_record.specs.declared.HeldPair.{HeldPair}
+use Rattle.standard_record.specs.declared.HeldTiming.{HeldTiming}
 use Rattle.standard_record.specs.declared.Held.{Held}
 use Rattle.standard_head.specs.Head.{productIn, versionIn, displayIn, colorsIn}
 use Rattle.standard_parts.specs.Timings.{flagsOf}
@@ -25,19 +26,19 @@ use Rattle.standard_reading.specs.Slots.{saidIn, verdictOf}
 abbrev pub flagsIn : List ℕ → List ℕ
 flagsIn s = flagsOf (s ! 35) (s ! 36) (s ! 37)
 
--- those of the first n slots
-abbrev pub timingsOf : List ℕ → ℕ → List DetailedTiming
-timingsOf s n = gather (λ i. lists (saidIn s i) .timings) n
+-- those of the first n slots, slot i as number i + 1
+abbrev pub timingsOf : List ℕ → ℕ → List HeldTiming
+timingsOf s n = turns heldTiming (λ i. lists (saidIn s i) .timings) n
 
--- the eight pairs first
-abbrev pub pairsOf : List ℕ → ℕ → List StandardTiming
-pairsOf s n = pairsAt s 38 8 ++ gather (λ i. lists (saidIn s i) .pairs) n
+-- the eight pairs first, as number 0
+abbrev pub pairsOf : List ℕ → ℕ → List HeldPair
+pairsOf s n = map (heldPair .wrap 0) (pairsAt s 38 8) ++ turns heldPair (λ i. lists (saidIn s i) .pairs) n
 
-abbrev pub pointsOf : List ℕ → ℕ → List WhitePoint
-pointsOf s n = gather (λ i. lists (saidIn s i) .points) n
+abbrev pub pointsOf : List ℕ → ℕ → List HeldPoint
+pointsOf s n = turns heldPoint (λ i. lists (saidIn s i) .points) n
 
 abbrev pub descriptorsOf : List ℕ → ℕ → List Held
-descriptorsOf s n = gather (λ i. lists (saidIn s i) .descriptors) n
+descriptorsOf s n = turns held (λ i. lists (saidIn s i) .descriptors) n
 
 -- ---- the record
 

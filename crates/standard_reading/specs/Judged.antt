@@ -1,11 +1,12 @@
 -- Where a block is refused, and where the spans of one that is accepted lie.
-use Prim.Native.Nat.{ℕ, zero, suc, _≤_, _<_}
+use Prim.Native.Nat.{ℕ, zero, suc, _+_, _≤_, _<_}
 use mathlib.Core.Path.{_≡_, refl, sym, _∙_, subst}
-use mathlib.Core.List.{List}
+use mathlib.Core.List.{List, map}
 use native.Mathlib.Omega.{arith}
 use lib.ListN.{length}
 use Rattle.bits.specs.Bytes.{part}
 use Rattle.steps.specs.declared.Refusal.{Refusal}
+use Rattle.standard_record.specs.Held.{held}
 use Rattle.standard_record.specs.declared.Verdict.{Verdict}
 use Rattle.standard_record.specs.declared.Verdict.the-variants.{Accepted, Refused}
 use Rattle.standard_verdict.specs.Laws.{then-first, has-128, Bounded, then-bounded, bounded-before}
@@ -58,8 +59,8 @@ module _ (s : List ℕ) where
   sounds-after : length s ≡ 128 → (n : ℕ) → n ≤ 4 → Sounds s (descriptorsOf s n) 126
   sounds-after whole zero h = tt
   sounds-after whole (suc n) h =
-      sounds-append s (descriptorsOf s n) (lists (saidIn s n) .descriptors) _
-      (sounds-after whole n (omega arith)) (sound-slot s (start n) _ (omega arith) (omega arith) n)
+      sounds-append s (descriptorsOf s n) (map (held .wrap (n + 1)) (lists (saidIn s n) .descriptors)) _
+      (sounds-after whole n (omega arith)) (sound-slot s (start n) _ (omega arith) (omega arith) (n + 1) n)
 
   pub sounds : standardOf s .end ≡ Accepted → Sounds s (descriptorsOf s 4) 126
   sounds e = sounds-after (accepted-has-128 e) 4 (omega arith)

@@ -4,3 +4,4 @@ pub mod Block
 pub mod Lists
 pub mod Judged
 pub mod Room
+pub mod Entries

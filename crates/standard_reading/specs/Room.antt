@@ -2,13 +2,14 @@
 -- or nothing.
 use Prim.Native.Nat.{ℕ, _+_, _-_, _*_, _≤_}
 use mathlib.Core.Path.{_≡_, sym, ap, _∙_}
-use mathlib.Core.List.{List}
+use mathlib.Core.List.{List, map}
 use native.Mathlib.Omega.{arith}
-use lib.ListN.{length, length-append}
+use lib.ListN.{length, length-append, length-map}
 use Rattle.bits.specs.Fields.{bit}
 use Rattle.bits.specs.Bytes.{_!_, part}
-use Rattle.fixed.specs.Gather.{gather, gather-at-most, gather-later}
+use Rattle.fixed.specs.Numbered.{turns, turns-at-most, turns-later}
 use Rattle.shared_record.specs.Established.{flags-fit}
+use Rattle.standard_record.specs.Held.{heldPoint, heldPair, heldTiming, held}
 use Rattle.standard_record.specs.declared.Verdict.the-variants.{Accepted}
 use Rattle.standard_record.specs.Seen.{holding, Fits}
 use Rattle.standard_parts.specs.Timings.{flagsOf}
@@ -28,22 +29,23 @@ module _ (s : List ℕ) where
   first-in = first-slot (part s (start 0) 18) (start 0)
 
   pub timings-room : (n : ℕ) → length (timingsOf s n) ≤ n
-  timings-room n = omega (arith, gather-at-most (λ i. lists (saidIn s i) .timings) 1 (λ i. few-in i .timings) n)
+  timings-room n = omega (arith, turns-at-most heldTiming (λ i. lists (saidIn s i) .timings) 1 (λ i. few-in i .timings) n)
 
   pub pairs-room : (n : ℕ) → length (pairsOf s n) ≤ 8 + (n - 1) * 6
   pairs-room n =
       omega (
         arith,
-        length-append (pairsAt s 38 8) (gather (λ i. lists (saidIn s i) .pairs) n),
+        length-append (map (heldPair .wrap 0) (pairsAt s 38 8)) (turns heldPair (λ i. lists (saidIn s i) .pairs) n),
+        length-map (pairsAt s 38 8) (heldPair .wrap 0),
         pairs-at-most s 38 8,
-        gather-later (λ i. lists (saidIn s i) .pairs) 6 (first-in .pairs) (λ i. few-in i .pairs) n,
+        turns-later heldPair (λ i. lists (saidIn s i) .pairs) 6 (first-in .pairs) (λ i. few-in i .pairs) n,
       )
 
   pub points-room : (n : ℕ) → length (pointsOf s n) ≤ (n - 1) * 2
-  points-room n = gather-later (λ i. lists (saidIn s i) .points) 2 (first-in .points) (λ i. few-in i .points) n
+  points-room n = turns-later heldPoint (λ i. lists (saidIn s i) .points) 2 (first-in .points) (λ i. few-in i .points) n
 
   pub descriptors-room : (n : ℕ) → length (descriptorsOf s n) ≤ n - 1
-  descriptors-room n = omega (arith, gather-later (λ i. lists (saidIn s i) .descriptors) 1 (first-in .descriptors) (λ i. few-in i .descriptors) n)
+  descriptors-room n = omega (arith, turns-later held (λ i. lists (saidIn s i) .descriptors) 1 (first-in .descriptors) (λ i. few-in i .descriptors) n)
 
 -- ---- the block
 

@@ -9,6 +9,9 @@ use standard_record::Color;
 use standard_record::Descriptors;
 use standard_record::DetailedTimings;
 use standard_record::Held;
+use standard_record::HeldPair;
+use standard_record::HeldPoint;
+use standard_record::HeldTiming;
 use standard_record::StandardReading;
 use standard_record::StandardRecord;
 use standard_record::StandardTimings;
@@ -81,8 +84,8 @@ fn read_slots(s: &[u8]) -> StandardReading
     let mut k: usize = 0;
     while k < 8 {
         let a = 38 + 2 * k;
-        if let Pair::Listed(p) = standard_parts::pair_of(s[a], s[a + 1]) {
-            standards[listed] = p;
+        if let Pair::Listed(pair) = standard_parts::pair_of(s[a], s[a + 1]) {
+            standards[listed] = HeldPair { pair, slot: 0 };
             listed += 1;
         }
         k += 1;
@@ -98,19 +101,20 @@ fn read_slots(s: &[u8]) -> StandardReading
         let at = 54 + 18 * i;
         let from = at as usize;
         let t = &s[from..from + 18];
+        let slot = i as u16 + 1;
         match standard_slots::said(i, t, at) {
             Slot::Refused(number) => return refuse(Refusal { number, at: from }),
             Slot::Nothing => {}
-            Slot::Timing(d) => {
-                timings[timed] = d;
+            Slot::Timing(timing) => {
+                timings[timed] = HeldTiming { timing, slot };
                 timed += 1;
             }
             Slot::Pairs => {
                 let mut k: usize = 0;
                 while k < 6 {
                     let a = 5 + 2 * k;
-                    if let Pair::Listed(p) = standard_parts::pair_of(t[a], t[a + 1]) {
-                        standards[listed] = p;
+                    if let Pair::Listed(pair) = standard_parts::pair_of(t[a], t[a + 1]) {
+                        standards[listed] = HeldPair { pair, slot };
                         listed += 1;
                     }
                     k += 1;
@@ -118,18 +122,18 @@ fn read_slots(s: &[u8]) -> StandardReading
             }
             Slot::Points(ps) => match ps {
                 Points::None => {}
-                Points::One(p) => {
-                    points[pointed] = p;
+                Points::One(point) => {
+                    points[pointed] = HeldPoint { point, slot };
                     pointed += 1;
                 }
                 Points::Two(p, q) => {
-                    points[pointed] = p;
-                    points[pointed + 1] = q;
+                    points[pointed] = HeldPoint { point: p, slot };
+                    points[pointed + 1] = HeldPoint { point: q, slot };
                     pointed += 2;
                 }
             },
             Slot::Described(descriptor) => {
-                entries[entered] = Held { descriptor };
+                entries[entered] = Held { descriptor, slot };
                 entered += 1;
             }
         }

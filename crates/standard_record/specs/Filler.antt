@@ -4,8 +4,9 @@ use lib.ListN.{replicate}
 use Rattle.timing.specs.Axis.{pixels, lines}
 use Rattle.timing.specs.declared.StereoType.the-variants as Stereo
 use Rattle.standard_record.specs.declared.Chromaticity.{Chromaticity}
-use Rattle.standard_record.specs.declared.WhitePoint.{WhitePoint}
-use Rattle.standard_record.specs.declared.StandardTiming.{StandardTiming}
+use Rattle.standard_record.specs.declared.HeldPoint.{HeldPoint}
+use Rattle.standard_record.specs.declared.HeldPair.{HeldPair}
+use Rattle.standard_record.specs.declared.HeldTiming.{HeldTiming}
 use Rattle.standard_record.specs.declared.DetailedTiming.{DetailedTiming}
 use Rattle.standard_record.specs.declared.Held.{Held}
 use Rattle.standard_record.specs.declared.StandardRecord.{StandardRecord}
@@ -20,14 +21,14 @@ use Rattle.standard_record.specs.declared.DisplayType.the-variants.{Mono
 abbrev blankChromaticity : Chromaticity
 blankChromaticity = record { x = 0; y = 0 }
 
-abbrev pub blankWhite : WhitePoint
-blankWhite = record { index = 0; place = blankChromaticity; gamma = Gamma.None }
+abbrev pub blankWhite : HeldPoint
+blankWhite = record { point = record { index = 0; place = blankChromaticity; gamma = Gamma.None }; slot = 0 }
 
-abbrev pub blankStandard : StandardTiming
-blankStandard = record { width = 0; ratio = record { width = 0; height = 0 }; rate = 0 }
+abbrev pub blankStandard : HeldPair
+blankStandard = record { pair = record { width = 0; ratio = record { width = 0; height = 0 }; rate = 0 }; slot = 0 }
 
-abbrev pub blankDetailed : DetailedTiming
-blankDetailed = record {
+abbrev blankTiming : DetailedTiming
+blankTiming = record {
   clock = 0;
   across = record { active = pixels 0; front = pixels 0; sync = pixels 0; back = pixels 0 };
   down = record { active = lines 0; front = lines 0; sync = lines 0; back = lines 0 };
@@ -38,8 +39,11 @@ blankDetailed = record {
   sync = AnalogComposite false Green;
 }
 
+abbrev pub blankDetailed : HeldTiming
+blankDetailed = record { timing = blankTiming; slot = 0 }
+
 abbrev pub blankHeld : Held
-blankHeld = record { descriptor = Name (record { start = 0; len = 0 }) }
+blankHeld = record { descriptor = Name (record { start = 0; len = 0 }); slot = 0 }
 
 unfoldable pub blank : StandardRecord
 blank = record {

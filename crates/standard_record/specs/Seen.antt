@@ -12,9 +12,9 @@ use Rattle.shared_record.specs.Established.{establishedTimings}
 use Rattle.shared_record.specs.declared.Version.{Version}
 use Rattle.standard_record.specs.declared.Display.{Display}
 use Rattle.standard_record.specs.declared.Chromaticities.{Chromaticities}
-use Rattle.standard_record.specs.declared.WhitePoint.{WhitePoint}
-use Rattle.standard_record.specs.declared.StandardTiming.{StandardTiming}
-use Rattle.standard_record.specs.declared.DetailedTiming.{DetailedTiming}
+use Rattle.standard_record.specs.declared.HeldPoint.{HeldPoint}
+use Rattle.standard_record.specs.declared.HeldPair.{HeldPair}
+use Rattle.standard_record.specs.declared.HeldTiming.{HeldTiming}
 use Rattle.standard_record.specs.declared.Held.{Held}
 use Rattle.standard_record.specs.declared.StandardRecord.{StandardRecord}
 
@@ -23,10 +23,10 @@ pub record Seen : Type 0 where
   pub version : Version
   pub display : Display
   pub basic : Chromaticities
-  pub points : List WhitePoint
+  pub points : List HeldPoint
   pub established : List ℕ
-  pub standard : List StandardTiming
-  pub detailed : List DetailedTiming
+  pub standard : List HeldPair
+  pub detailed : List HeldTiming
   pub descriptors : List Held
   pub extensions : ℕ
 

@@ -96,7 +96,7 @@ pub struct WhitePoint {
 }
 
 pub struct WhitePoints {
-    pub items: [WhitePoint; 6],
+    pub items: [HeldPoint; 6],
     pub len: usize,
 }
 
@@ -111,7 +111,6 @@ pub struct Ratio {
     pub height: u16,
 }
 
-// 8 bytes with no padding: a list of them is cleared and copied in wide moves.
 pub struct StandardTiming {
     pub width: u16,
     pub ratio: Ratio,
@@ -119,7 +118,7 @@ pub struct StandardTiming {
 }
 
 pub struct StandardTimings {
-    pub items: [StandardTiming; 26],
+    pub items: [HeldPair; 26],
     pub len: usize,
 }
 
@@ -161,7 +160,7 @@ pub struct DetailedTiming {
 }
 
 pub struct DetailedTimings {
-    pub items: [DetailedTiming; 4],
+    pub items: [HeldTiming; 4],
     pub len: usize,
 }
 
@@ -214,15 +213,35 @@ pub enum Descriptor {
     },
 }
 
-// An array of enums is held through a struct.
-pub struct Held {
-    pub descriptor: Descriptor,
-}
-
 pub struct Descriptors {
     pub items: [Held; 3],
     pub len: usize,
 }
+
+// ---- the entries of the four lists: each beside the number of the slot that holds it, 1 to 4; 0 for the eight pairs at offset 38
+
+pub struct HeldPoint {
+    pub point: WhitePoint,
+    pub slot: u16,
+}
+
+// Five numbers of 16 bits, 10 bytes with no padding: a list of them is cleared and copied in wide moves.
+pub struct HeldPair {
+    pub pair: StandardTiming,
+    pub slot: u16,
+}
+
+pub struct HeldTiming {
+    pub timing: DetailedTiming,
+    pub slot: u16,
+}
+
+pub struct Held {
+    pub descriptor: Descriptor,
+    pub slot: u16,
+}
+
+// ---- the record
 
 pub struct StandardRecord {
     pub product: Product,
@@ -249,22 +268,28 @@ pub struct StandardReading {
 
 const BLANK_CHROMATICITY: Chromaticity = Chromaticity { x: 0, y: 0 };
 
-pub const BLANK_WHITE: WhitePoint = WhitePoint {
-    index: 0,
-    place: BLANK_CHROMATICITY,
-    gamma: Gamma::None,
-};
-
-pub const BLANK_STANDARD: StandardTiming = StandardTiming {
-    width: 0,
-    ratio: Ratio {
-        width: 0,
-        height: 0,
+pub const BLANK_WHITE: HeldPoint = HeldPoint {
+    point: WhitePoint {
+        index: 0,
+        place: BLANK_CHROMATICITY,
+        gamma: Gamma::None,
     },
-    rate: 0,
+    slot: 0,
 };
 
-pub const BLANK_DETAILED: DetailedTiming = DetailedTiming {
+pub const BLANK_STANDARD: HeldPair = HeldPair {
+    pair: StandardTiming {
+        width: 0,
+        ratio: Ratio {
+            width: 0,
+            height: 0,
+        },
+        rate: 0,
+    },
+    slot: 0,
+};
+
+const BLANK_TIMING: DetailedTiming = DetailedTiming {
     clock: 0,
     across: Across {
         active: Pixels(0),
@@ -294,8 +319,14 @@ pub const BLANK_DETAILED: DetailedTiming = DetailedTiming {
     },
 };
 
+pub const BLANK_DETAILED: HeldTiming = HeldTiming {
+    timing: BLANK_TIMING,
+    slot: 0,
+};
+
 pub const BLANK_HELD: Held = Held {
     descriptor: Descriptor::Name(Span { start: 0, len: 0 }),
+    slot: 0,
 };
 
 const BLANK: StandardRecord = StandardRecord {

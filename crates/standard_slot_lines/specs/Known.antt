@@ -11,18 +11,21 @@ use Rattle.standard_record.specs.declared.Sync.the-variants.{BipolarAnalogCompo
 use Rattle.standard_record.specs.declared.SecondaryTiming.the-variants.{GTF}
 use Rattle.standard_record.specs.declared.Descriptor.the-variants.{Range}
 use Rattle.shared_lines.specs.Lines.{axes, borderToStereo, polarity, limits}
-use Rattle.standard_slot_lines.specs.Lines.{sync, detailedLine, secondary, rangeLine, descriptorLine}
+use Rattle.standard_slot_lines.specs.Lines.{sync, detailedLine, secondary, rangeFields, descriptorFields, heldLine}
 
 detailed : detailedLine (record {
-  clock = 40000000;
-  across = record { active = pixels 800; front = pixels 40; sync = pixels 128; back = pixels 88 };
-  down = record { active = lines 600; front = lines 1; sync = lines 4; back = lines 23 };
-  size = record { width = 320; height = 180 };
-  border = record { across = pixels 0; down = lines 0 };
-  interlaced = false;
-  stereo = Stereo.None;
-  sync = DigitalSeparate Positive Positive;
-}) ≡ text "detailed 40000000 800 600 40 1 128 4 88 23 320 180 0 0 0 0 3 1 1\n"
+  timing = record {
+    clock = 40000000;
+    across = record { active = pixels 800; front = pixels 40; sync = pixels 128; back = pixels 88 };
+    down = record { active = lines 600; front = lines 1; sync = lines 4; back = lines 23 };
+    size = record { width = 320; height = 180 };
+    border = record { across = pixels 0; down = lines 0 };
+    interlaced = false;
+    stereo = Stereo.None;
+    sync = DigitalSeparate Positive Positive;
+  };
+  slot = 1;
+}) ≡ text "detailed 40000000 800 600 40 1 128 4 88 23 320 180 0 0 0 0 3 1 1 1\n"
 unfolding detailedLine axes borderToStereo flat flag field32 field16 field8 decimalIn sync polarity
 detailed = refl
 
@@ -34,7 +37,9 @@ digital : sync (DigitalComposite false Negative) ≡ text " 2 0 0"
 unfolding sync polarity flat flag
 digital = refl
 
-range : descriptorLine [] (Range (record { vmin = 50; vmax = 75; hmin = 30000; hmax = 80000; clock = 130000000 }) (GTF 80000 80 600 128 40))
-    ≡ text "range 50 75 30000 80000 130000000 gtf 80000 80 600 128 40\n"
-unfolding descriptorLine rangeLine limits secondary flat field8 field16 field32 decimalIn
+range : heldLine [] (record {
+  descriptor = Range (record { vmin = 50; vmax = 75; hmin = 30000; hmax = 80000; clock = 130000000 }) (GTF 80000 80 600 128 40);
+  slot = 4;
+}) ≡ text "range 50 75 30000 80000 130000000 gtf 80000 80 600 128 40 4\n"
+unfolding heldLine descriptorFields rangeFields limits secondary flat field8 field16 field32 decimalIn
 range = refl

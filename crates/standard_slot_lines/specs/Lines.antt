@@ -3,12 +3,12 @@ use Prim.Native.Nat.{ℕ, min}
 use mathlib.Core.List.{List, [], _∷_}
 use lib.ListN.{take}
 use Rattle.page.specs.Words.{text, newline, field32, field16, field8, flag, flat, each}
-use Rattle.shared_lines.specs.Lines.{axes, borderToStereo, polarity, textLine, raw, rawLine, limits}
+use Rattle.shared_lines.specs.Lines.{axes, borderToStereo, polarity, textFields, raw, rawFields, limits}
 use Rattle.standard_record.specs.declared.SyncLine.{SyncLine}
 use Rattle.standard_record.specs.declared.SyncLine.the-variants.{Green, RGB}
 use Rattle.standard_record.specs.declared.Sync.{Sync}
 use Rattle.standard_record.specs.declared.Sync.the-variants.{AnalogComposite, BipolarAnalogComposite, DigitalComposite, DigitalSeparate}
-use Rattle.standard_record.specs.declared.DetailedTiming.{DetailedTiming}
+use Rattle.standard_record.specs.declared.HeldTiming.{HeldTiming}
 use Rattle.standard_record.specs.declared.DetailedTimings.{DetailedTimings}
 use Rattle.standard_record.specs.declared.Limits.{Limits}
 use Rattle.standard_record.specs.declared.SecondaryTiming.{SecondaryTiming}
@@ -31,10 +31,11 @@ sync (BipolarAnalogComposite serrated l) = flat (text " 1" ∷ flag serrated ∷
 sync (DigitalComposite serrated p) = flat (text " 2" ∷ flag serrated ∷ polarity p ∷ [])
 sync (DigitalSeparate horizontal vertical) = flat (text " 3" ∷ polarity horizontal ∷ polarity vertical ∷ [])
 
-unfoldable pub detailedLine : DetailedTiming → List ℕ
-detailedLine d = flat (
+-- the slot's number last, as in each line of an entry
+unfoldable pub detailedLine : HeldTiming → List ℕ
+detailedLine h = let d = h .timing in flat (
     axes (d .clock) (d .across) (d .down) ∷ field16 (d .size .width) ∷ field16 (d .size .height) ∷
-    borderToStereo (d .border) (d .interlaced) (d .stereo) ∷ sync (d .sync) ∷
+    borderToStereo (d .border) (d .interlaced) (d .stereo) ∷ sync (d .sync) ∷ field16 (h .slot) ∷
     newline ∷ [])
 
 -- a length above the list's size counts as that size
@@ -48,21 +49,20 @@ secondary s Secondary.None = text " none"
 secondary s (Secondary.GTF start c m k j) = flat (text " gtf" ∷ field32 start ∷ field8 c ∷ field16 m ∷ field8 k ∷ field8 j ∷ [])
 secondary s (Secondary.Other kind d) = flat (text " other" ∷ raw s kind d ∷ [])
 
-unfoldable pub rangeLine : List ℕ → Limits → SecondaryTiming → List ℕ
-rangeLine s l t =
-    flat (limits (l .vmin) (l .vmax) (l .hmin) (l .hmax) (l .clock) ∷ secondary s t ∷ newline ∷ [])
+unfoldable pub rangeFields : List ℕ → Limits → SecondaryTiming → List ℕ
+rangeFields s l t =
+    flat (limits (l .vmin) (l .vmax) (l .hmin) (l .hmax) (l .clock) ∷ secondary s t ∷ [])
 
-unfoldable pub descriptorLine : List ℕ → Descriptor → List ℕ
-descriptorLine s (Serial d) = textLine (text "serial") d
-descriptorLine s (Text d) = textLine (text "text") d
-descriptorLine s (Range l t) = rangeLine s l t
-descriptorLine s (Name d) = textLine (text "name") d
-descriptorLine s (Undefined tag d) = rawLine (text "undefined") s tag d
-descriptorLine s (MakerDefined tag d) = rawLine (text "maker") s tag d
+unfoldable pub descriptorFields : List ℕ → Descriptor → List ℕ
+descriptorFields s (Serial d) = textFields (text "serial") d
+descriptorFields s (Text d) = textFields (text "text") d
+descriptorFields s (Range l t) = rangeFields s l t
+descriptorFields s (Name d) = textFields (text "name") d
+descriptorFields s (Undefined tag d) = rawFields (text "undefined") s tag d
+descriptorFields s (MakerDefined tag d) = rawFields (text "maker") s tag d
 
--- of an element of the list
 unfoldable pub heldLine : List ℕ → Held → List ℕ
-heldLine s h = descriptorLine s (h .descriptor)
+heldLine s h = flat (descriptorFields s (h .descriptor) ∷ field16 (h .slot) ∷ newline ∷ [])
 
 unfoldable pub descriptorLines : List ℕ → Descriptors → List ℕ
 descriptorLines s l = each (heldLine s) (take (min (l .len) 3) (l .items))

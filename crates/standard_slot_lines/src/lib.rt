@@ -1,8 +1,9 @@
 // The lines of the slots, detailed timings and descriptors, appended to a page.
 use standard_record::Descriptor;
 use standard_record::Descriptors;
-use standard_record::DetailedTiming;
 use standard_record::DetailedTimings;
+use standard_record::Held;
+use standard_record::HeldTiming;
 use standard_record::Limits;
 use standard_record::SecondaryTiming;
 use standard_record::Sync;
@@ -54,9 +55,10 @@ fn sync(out: &mut [u8; 4096], at: usize, t: Sync) -> usize
     }
 }
 
-fn detailed_line(out: &mut [u8; 4096], at: usize, d: DetailedTiming) -> usize
-    ensures { λ r. ⌜ page (now (out .exit)) r ≡ page (now (out .entry)) at ▷ lines.detailedLine d ⌝ }
+fn detailed_line(out: &mut [u8; 4096], at: usize, h: HeldTiming) -> usize
+    ensures { λ r. ⌜ page (now (out .exit)) r ≡ page (now (out .entry)) at ▷ lines.detailedLine h ⌝ }
 {
+    let d = h.timing;
     // an enum that is a field is copied before it is passed
     let kind = d.sync;
     let glasses = d.stereo;
@@ -65,6 +67,7 @@ fn detailed_line(out: &mut [u8; 4096], at: usize, d: DetailedTiming) -> usize
     n = page::field16(out, n, d.size.height);
     n = shared_lines::border_to_stereo(out, n, d.border, d.interlaced, glasses);
     n = sync(out, n, kind);
+    n = page::field16(out, n, h.slot);
     page::newline(out, n)
 }
 
@@ -104,23 +107,22 @@ fn secondary(out: &mut [u8; 4096], at: usize, s: &[u8], t: SecondaryTiming) -> u
     }
 }
 
-fn range_line(out: &mut [u8; 4096], at: usize, s: &[u8], l: Limits, t: SecondaryTiming) -> usize
-    ensures { λ r. ⌜ page (now (out .exit)) r ≡ page (now (out .entry)) at ▷ lines.rangeLine (now (s .entry)) l t ⌝ }
+fn range_fields(out: &mut [u8; 4096], at: usize, s: &[u8], l: Limits, t: SecondaryTiming) -> usize
+    ensures { λ r. ⌜ page (now (out .exit)) r ≡ page (now (out .entry)) at ▷ lines.rangeFields (now (s .entry)) l t ⌝ }
 {
-    let mut n = shared_lines::limits(out, at, l.vmin, l.vmax, l.hmin, l.hmax, l.clock);
-    n = secondary(out, n, s, t);
-    page::newline(out, n)
+    let n = shared_lines::limits(out, at, l.vmin, l.vmax, l.hmin, l.hmax, l.clock);
+    secondary(out, n, s, t)
 }
 
-fn descriptor_line(out: &mut [u8; 4096], at: usize, s: &[u8], t: Descriptor) -> usize
-    ensures { λ r. ⌜ page (now (out .exit)) r ≡ page (now (out .entry)) at ▷ lines.descriptorLine (now (s .entry)) t ⌝ }
+fn descriptor_fields(out: &mut [u8; 4096], at: usize, s: &[u8], t: Descriptor) -> usize
+    ensures { λ r. ⌜ page (now (out .exit)) r ≡ page (now (out .entry)) at ▷ lines.descriptorFields (now (s .entry)) t ⌝ }
 {
     match t {
-        Descriptor::Serial(d) => shared_lines::text_line(out, at, b"serial", d),
-        Descriptor::Text(d) => shared_lines::text_line(out, at, b"text", d),
-        Descriptor::Range { limits, secondary } => range_line(out, at, s, limits, secondary),
-        Descriptor::Name(d) => shared_lines::text_line(out, at, b"name", d),
-        Descriptor::Undefined { tag, data } => shared_lines::raw_line(
+        Descriptor::Serial(d) => shared_lines::text_fields(out, at, b"serial", d),
+        Descriptor::Text(d) => shared_lines::text_fields(out, at, b"text", d),
+        Descriptor::Range { limits, secondary } => range_fields(out, at, s, limits, secondary),
+        Descriptor::Name(d) => shared_lines::text_fields(out, at, b"name", d),
+        Descriptor::Undefined { tag, data } => shared_lines::raw_fields(
             out,
             at,
             b"undefined",
@@ -128,7 +130,7 @@ fn descriptor_line(out: &mut [u8; 4096], at: usize, s: &[u8], t: Descriptor) -> 
             tag,
             data,
         ),
-        Descriptor::MakerDefined { tag, data } => shared_lines::raw_line(
+        Descriptor::MakerDefined { tag, data } => shared_lines::raw_fields(
             out,
             at,
             b"maker",
@@ -139,6 +141,15 @@ fn descriptor_line(out: &mut [u8; 4096], at: usize, s: &[u8], t: Descriptor) -> 
     }
 }
 
+fn held_line(out: &mut [u8; 4096], at: usize, s: &[u8], h: Held) -> usize
+    ensures { λ r. ⌜ page (now (out .exit)) r ≡ page (now (out .entry)) at ▷ lines.heldLine (now (s .entry)) h ⌝ }
+{
+    let t = h.descriptor;
+    let mut n = descriptor_fields(out, at, s, t);
+    n = page::field16(out, n, h.slot);
+    page::newline(out, n)
+}
+
 pub fn descriptor_lines(out: &mut [u8; 4096], at: usize, s: &[u8], l: Descriptors) -> usize
     ensures { λ r. ⌜ page (now (out .exit)) r ≡ page (now (out .entry)) at ▷ lines.descriptorLines (now (s .entry)) l ⌝ }
 {
@@ -147,9 +158,7 @@ pub fn descriptor_lines(out: &mut [u8; 4096], at: usize, s: &[u8], l: Descriptor
     let mut n = at;
     let mut i = 0;
     while i < count {
-        let held = items[i];
-        let t = held.descriptor;
-        n = descriptor_line(out, n, s, t);
+        n = held_line(out, n, s, items[i]);
         i += 1;
     }
     n

@@ -1,4 +1,4 @@
--- How much a slot lists at the most, and that the first lists a timing or nothing.
+-- How much a slot lists at the most, that it is of one kind, and that the first lists a timing or nothing.
 use Prim.Native.Nat.{ℕ, _+_, _*_, _≤_}
 use mathlib.Core.Path.{_≡_, refl}
 use mathlib.Core.Bool.{Bool, true, false, cond}
@@ -13,7 +13,7 @@ use Rattle.standard_timing.specs.declared.Timed.{Timed}
 use Rattle.standard_parts.specs.Timings.{pairOf}
 use Rattle.standard_parts.specs.declared.Pair.{Pair}
 use Rattle.standard_parts.specs.declared.Point.{Point}
-use Rattle.standard_slots.specs.Said.{Said, refusal, lists, ofPair, pairAt, pairsAt, ofPoint, pointAt, ofTimed, said}
+use Rattle.standard_slots.specs.Said.{Said, refusal, nothing, timing, pairs, points, described, Lists, lists, ofPair, pairAt, pairsAt, ofPoint, pointAt, ofTimed, said}
 use Rattle.standard_slots.specs.Each.{each}
 
 -- no more than this
@@ -57,6 +57,23 @@ few i t at =
       range = omega arith;
       raw = omega arith;
     }) i
+
+-- ---- a slot feeds one list at most
+
+-- all but one of the four are empty
+pub data OneKind (x : Lists) : Type 0 where
+  timings-alone : x .pairs ≡ [] → x .points ≡ [] → x .descriptors ≡ [] → OneKind x
+  pairs-alone : x .timings ≡ [] → x .points ≡ [] → x .descriptors ≡ [] → OneKind x
+  points-alone : x .timings ≡ [] → x .pairs ≡ [] → x .descriptors ≡ [] → OneKind x
+  descriptors-alone : x .timings ≡ [] → x .pairs ≡ [] → x .points ≡ [] → OneKind x
+
+pub one-kind : (x : Said) → OneKind (lists x)
+one-kind (refusal n) = timings-alone refl refl refl
+one-kind nothing = timings-alone refl refl refl
+one-kind (timing d) = timings-alone refl refl refl
+one-kind (pairs ps) = pairs-alone refl refl refl
+one-kind (points ws) = points-alone refl refl refl
+one-kind (described d) = descriptors-alone refl refl refl
 
 -- ---- the first slot is a timing, or refused
 

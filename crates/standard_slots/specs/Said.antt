@@ -11,7 +11,6 @@ use Rattle.tags.specs.declared.Tag.{Tag}
 use Rattle.standard_record.specs.declared.DetailedTiming.{DetailedTiming}
 use Rattle.standard_record.specs.declared.StandardTiming.{StandardTiming}
 use Rattle.standard_record.specs.declared.WhitePoint.{WhitePoint}
-use Rattle.standard_record.specs.declared.Held.{Held}
 use Rattle.standard_record.specs.declared.Descriptor.{Descriptor}
 use Rattle.standard_record.specs.declared.Descriptor.the-variants.{Serial, Text, Range, Name, Undefined, MakerDefined}
 use Rattle.standard_timing.specs.Timing.{clockIn, timingIn}
@@ -114,10 +113,10 @@ pub record Lists : Type 0 where
   pub timings : List DetailedTiming
   pub pairs : List StandardTiming
   pub points : List WhitePoint
-  pub descriptors : List Held
+  pub descriptors : List Descriptor
 
 -- in this order
-abbrev four : List DetailedTiming → List StandardTiming → List WhitePoint → List Held → Lists
+abbrev pub four : List DetailedTiming → List StandardTiming → List WhitePoint → List Descriptor → Lists
 four ts ps ws ds = record { timings = ts; pairs = ps; points = ws; descriptors = ds }
 
 abbrev pub lists : Said → Lists
@@ -126,4 +125,4 @@ lists nothing = four [] [] [] []
 lists (timing d) = four (d ∷ []) [] [] []
 lists (pairs ps) = four [] ps [] []
 lists (points ws) = four [] [] ws []
-lists (described d) = four [] [] [] (record { descriptor = d } ∷ [])
+lists (described d) = four [] [] [] (d ∷ [])

@@ -1,13 +1,14 @@
 -- Where the spans of a slot lie, and what its texts are. s is the whole block.
 use Prim.Native.Nat.{ℕ, _+_, _≤_, _<_}
 use mathlib.Core.Path.{_≡_, sym, _∙_}
-use mathlib.Core.List.{List, [], _∷_, _++_}
+use mathlib.Core.List.{List, [], _∷_, _++_, map}
 use native.Mathlib.Omega.{arith}
 use lib.Dec.{eqb, ltb}
 use lib.ListN.{length, length-take, length-drop}
 use lib.Seq.{getD-take, getD-drop}
 use Rattle.bits.specs.Bytes.{_!_, part}
 use Rattle.steps.specs.Spans.{Inside, Text}
+use Rattle.standard_record.specs.Held.{held}
 use Rattle.standard_record.specs.declared.Held.{Held}
 use Rattle.standard_record.specs.declared.Descriptor.{Descriptor}
 use Rattle.standard_record.specs.declared.SecondaryTiming.{SecondaryTiming}
@@ -73,10 +74,10 @@ module _ (s : List ℕ) (at n : ℕ) (room : at + 18 ≤ n) (whole : at + 18 ≤
   sound-raw : Sound s (rawOf (part s at 18 ! 3) (record { start = at + 5; len = 13 })) n
   sound-raw = either (λ d. Sound s d n) (ltb (part s at 18 ! 3) 0x10) (omega arith) (omega arith)
 
-  pub sound-slot : (i : ℕ) → Sounds s (lists (said i (part s at 18) at) .descriptors) n
-  sound-slot =
-      each (λ x. Sounds s (lists x .descriptors) n) (part s at 18) at (record {
-        refused = λ k h l. tt;
+  pub sound-slot : (k i : ℕ) → Sounds s (map (held .wrap k) (lists (said i (part s at 18) at) .descriptors)) n
+  sound-slot k =
+      each (λ x. Sounds s (map (held .wrap k) (lists x .descriptors)) n) (part s at 18) at (record {
+        refused = λ r h l. tt;
         none = tt;
         timed = λ d. tt;
         listed = tt;

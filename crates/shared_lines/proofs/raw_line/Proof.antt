@@ -8,9 +8,8 @@ use Rattle.shared_lines.proofs.raw_line.Tie as tie
 returns : tie.Need-returns
 unfolding rawLine
 returns c =
-    let c2 = c .before .before in
-    let c1 = c2 .before .before in
-    line (c1 .bytes .ensures so c2 .raw .ensures so c .newline .ensures so done)
+    let c1 = c .before .before in
+    line (c1 .raw-fields .ensures so c .newline .ensures so done)
 
 pub raw-line-spec : {M : Type 1} → statement M
-raw-line-spec = tie.close (tie.spec (search needs) (search needs) (search needs) returns)
+raw-line-spec = tie.close (tie.spec (search needs) (search needs) returns)

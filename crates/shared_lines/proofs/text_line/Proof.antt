@@ -8,11 +8,8 @@ use Rattle.shared_lines.proofs.text_line.Tie as tie
 returns : tie.Need-returns
 unfolding textLine
 returns c =
-    let c3 = c .before .before in
-    let c2 = c3 .before .before in
-    let c1 = c2 .before .before in
-    line (c1 .bytes .ensures so c2 .field .ensures so c3 .field2 .ensures so c .newline .ensures so done)
+    let c1 = c .before .before in
+    line (c1 .text-fields .ensures so c .newline .ensures so done)
 
 pub text-line-spec : {M : Type 1} → statement M
-text-line-spec =
-    tie.close (tie.spec (search needs) (search needs) (search needs) (search needs) returns)
+text-line-spec = tie.close (tie.spec (search needs) (search needs) returns)

@@ -8,7 +8,8 @@ use Rattle.standard_lines.proofs.white_line.Tie as tie
 returns : tie.Need-returns
 unfolding whiteLine
 returns c =
-    let c5 = c .before .before in
+    let c6 = c .before .before in
+    let c5 = c6 .before .before in
     let c4 = c5 .before .before in
     let c3 = c4 .before .before in
     let c2 = c3 .before .before in
@@ -19,12 +20,14 @@ returns c =
     c3 .field16 .ensures so
     c4 .field162 .ensures so
     c5 .gamma .ensures so
+    c6 .field163 .ensures so
     c .newline .ensures so done)
 
 pub white-line-spec : {M : Type 1} → statement M
 white-line-spec =
     tie.close
     (tie.spec
+    (search needs)
     (search needs)
     (search needs)
     (search needs)

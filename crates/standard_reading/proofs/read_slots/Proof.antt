@@ -1,16 +1,17 @@
 -- `standard_reading::read_slots` meets its contract. The invariants: the arrays and their counts hold the pairs passed, and what the slots passed list. Assumes nothing.
 use Prim.Native.Nat.{_+_, _-_, _*_, _≤_}
 use mathlib.Core.Path.{_≡_, refl, sym, ap, _∙_}
-use mathlib.Core.List.{_++_, append-assoc}
+use mathlib.Core.List.{_++_, map, map-append, append-assoc}
 use mathlib.Core.Logic.{⊎-elim}
 use native.Mathlib.Nat.{add-sub-cancel-left}
 use native.Mathlib.Omega.{arith}
 use denote.Ref.{now}
-use lib.ListN.{take, drop}
+use lib.ListN.{take, drop, length-map}
 use borrow.Author.Needs.{needs}
 use Rattle.fixed.specs.Gather.{Holds, gather-more, held-at-most, took, kept, renamed, took-two}
 use Rattle.bits.specs.Bytes.{part}
 use Rattle.standard_record.specs.Filler.{blankStandard}
+use Rattle.standard_record.specs.Held.{heldPair}
 use Rattle.standard_slots.specs.Said.{ofPair, pairsAt}
 use Rattle.standard_slots.specs.Few.{pairs-at-most}
 use Rattle.standard_slots.specs.Answers.{ofSlot}
@@ -23,18 +24,18 @@ use Rattle.standard_reading.proofs.read_slots.Tie as tie
 
 -- the eight pairs
 abbrev Inv-loop : tie.InvT-loop
-Inv-loop s standards₀ listed₀ k₀ standards listed k = (k ≤ 8) × (listed ≤ k) × Holds 26 blankStandard (pairsAt s 38 k) standards listed
+Inv-loop s standards₀ listed₀ k₀ standards listed k = (k ≤ 8) × (listed ≤ k) × Holds 26 blankStandard (map (heldPair .wrap 0) (pairsAt s 38 k)) standards listed
 
 abbrev μ-loop : tie.MeasureT-loop
 μ-loop s standards₀ listed₀ k₀ standards listed k = 8 - k
 
 -- the pairs of an fa slot, behind those that are listed before
 abbrev Inv-loop3 : tie.InvT-loop3
-Inv-loop3 s standards₀ listed₀ k timings timed points pointed entries entered i at from t k₀ standards listed k' =
-    (k' ≤ 6) × (listed ≤ 8 + (i - 1) * 6 + k') × Holds 26 blankStandard (pairsOf s i ++ pairsAt t 5 k') standards listed
+Inv-loop3 s standards₀ listed₀ k timings timed points pointed entries entered i at from t slot k₀ standards listed k' =
+    (k' ≤ 6) × (listed ≤ 8 + (i - 1) * 6 + k') × Holds 26 blankStandard (pairsOf s i ++ map (heldPair .wrap (i + 1)) (pairsAt t 5 k')) standards listed
 
 abbrev μ-loop3 : tie.MeasureT-loop3
-μ-loop3 s standards₀ listed₀ k timings timed points pointed entries entered i at from t k₀ standards listed k' = 6 - k'
+μ-loop3 s standards₀ listed₀ k timings timed points pointed entries entered i at from t slot k₀ standards listed k' = 6 - k'
 
 -- the slots
 abbrev Inv-loop2 : tie.InvT-loop2
@@ -53,12 +54,12 @@ loop-again c =
     let l = p .before .before .before .before in
     let s = now (l .before .before .args .s) in
     let told = sym (p .pair-of .ensures) in
-    let h : Holds 26 blankStandard (pairsAt s 38 (l .loop .k + 1)) (c .match .standards) (c .match .listed) =
-    rw gather-more
-    (⊎-elim (λ w. took (l .loop .inv .2) (ap ofPair (told ∙ w .1 .given .1)) (omega arith) (w .3) (w .4))
-    (λ w. kept (l .loop .inv .2) (ap ofPair (told ∙ w .1 .given .1)) (w .2) (w .3))
+    let h : Holds 26 blankStandard (map (heldPair .wrap 0) (pairsAt s 38 (l .loop .k + 1))) (c .match .standards) (c .match .listed) =
+    rw (gather-more, map-append)
+    (⊎-elim (λ w. took (l .loop .inv .2) (ap (λ p. map (heldPair .wrap 0) (ofPair p)) (told ∙ w .1 .given .1)) (omega arith) (w .3) (w .4))
+    (λ w. kept (l .loop .inv .2) (ap (λ p. map (heldPair .wrap 0) (ofPair p)) (told ∙ w .1 .given .1)) (w .2) (w .3))
     (c .match .came))
-    in (search needs, omega (arith, held-at-most h, pairs-at-most s 38 (l .loop .k + 1)), h)
+    in (search needs, omega (arith, held-at-most h, length-map (pairsAt s 38 (l .loop .k + 1)) (heldPair .wrap 0), pairs-at-most s 38 (l .loop .k + 1)), h)
 
 loop2-holds : tie.Need-loop2-holds Inv-loop μ-loop Inv-loop3 μ-loop3 Inv-loop2 μ-loop2
 unfolding judged
@@ -105,10 +106,10 @@ loop3-again c =
     let i = o .loop2 .i in
     let t = take (start i + 18 - start i) (drop (start i) s) in
     let told = sym (p .pair-of2 .ensures) in
-    let h : Holds 26 blankStandard (pairsOf s i ++ pairsAt t 5 (l .loop3 .k + 1)) (c .match3 .standards) (c .match3 .listed) =
-    rw (gather-more, ← append-assoc)
-    (⊎-elim (λ w. took (l .loop3 .inv .2) (ap ofPair (told ∙ w .1 .given .1)) (omega arith) (w .3) (w .4))
-    (λ w. kept (l .loop3 .inv .2) (ap ofPair (told ∙ w .1 .given .1)) (w .2) (w .3))
+    let h : Holds 26 blankStandard (pairsOf s i ++ map (heldPair .wrap (i + 1)) (pairsAt t 5 (l .loop3 .k + 1))) (c .match3 .standards) (c .match3 .listed) =
+    rw (gather-more, map-append (heldPair .wrap (i + 1)) (pairsAt t 5 (l .loop3 .k)), ← append-assoc)
+    (⊎-elim (λ w. took (l .loop3 .inv .2) (ap (λ p. map (heldPair .wrap (i + 1)) (ofPair p)) (told ∙ w .1 .given .1)) (omega arith) (w .3) (w .4))
+    (λ w. kept (l .loop3 .inv .2) (ap (λ p. map (heldPair .wrap (i + 1)) (ofPair p)) (told ∙ w .1 .given .1)) (w .2) (w .3))
     (c .match3 .came))
     in (search needs, pairs-so-far s t i (l .loop3 .k + 1) h, h)
 
@@ -180,6 +181,8 @@ read-slots-spec =
     (λ c. search needs)
     loop-again
     loop2-holds
+    (λ c. search needs)
+    (λ c. search needs)
     (λ c. search needs)
     (λ c. search needs)
     (λ c. search needs)

@@ -22,13 +22,12 @@ unfolding each
 loop-holds c = (search needs, nothing _)
 
 loop-again : tie.Need-loop-again Inv-loop μ-loop
-unfolding heldLine
 loop-again c =
     let at-loop = c .before .before .before .before in
     let start = at-loop .before .before .before .before in
     let size : length (start .args .l .items) ≡ 3 = simp length-map at (start .good .1 .1 .1 .0 .1 .1 .0 .1 .0 .1) in
     let below : at-loop .loop .i < length (start .args .l .items) = omega arith in
-    (search needs, turn _ _ _ _ below (at-loop .loop .inv .1 so c .descriptor-line .ensures so done))
+    (search needs, turn _ _ _ _ below (at-loop .loop .inv .1 so c .held-line .ensures so done))
 
 returns : tie.Need-returns Inv-loop μ-loop
 unfolding descriptorLines

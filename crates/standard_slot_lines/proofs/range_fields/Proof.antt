@@ -1,0 +1,15 @@
+-- `standard_slot_lines::range_fields` meets its contract. Assumes nothing.
+use borrow.Author.Needs.{needs}
+use Rattle.page.specs.Laws.{_so_, done, line}
+use Rattle.standard_slot_lines.specs.Lines.{rangeFields}
+use Rattle.standard_slot_lines.proofs.range_fields.Statement.{statement}
+use Rattle.standard_slot_lines.proofs.range_fields.Tie as tie
+
+returns : tie.Need-returns
+unfolding rangeFields
+returns c =
+    let c1 = c .before .before in
+    line (c1 .limits .ensures so c .secondary .ensures so done)
+
+pub range-fields-spec : {M : Type 1} → statement M
+range-fields-spec = tie.close (tie.spec (search needs) (search needs) returns)
