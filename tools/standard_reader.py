@@ -144,7 +144,9 @@ def descriptor(slot, at):
     if tag == 0xFD:
         limits = (slot[5], slot[6], slot[7] * 1000, slot[8] * 1000, slot[9] * 10000000)
         return "descriptor", [line("range", *limits, *secondary(slot, at))]
-    return "descriptor", [line("maker" if tag < 0x10 else "undefined", tag, data.hex())] if tag != 0x10 else []
+    if tag == 0x10:
+        return "descriptor", []
+    return "descriptor", [line("maker" if tag < 0x10 else "undefined", tag, data.hex())]
 
 
 def reading(block):
@@ -153,7 +155,7 @@ def reading(block):
         if not passed:
             raise Refused(number, at)
     lists = {"white": [], "standard": [line(pair, 0) for pair in pairs(block[38:54])], "detailed": [], "descriptor": []}
-    for at in SLOTS:
+    for number, at in enumerate(SLOTS, 1):
         slot = block[at:at + 18]
         if little(slot[0:2]):
             kind, entries = "detailed", [detailed(slot, at)]
@@ -161,7 +163,7 @@ def reading(block):
             raise Refused(3, at)
         else:
             kind, entries = descriptor(slot, at)
-        lists[kind] += [line(entry, at // 18 - 2) for entry in entries]
+        lists[kind] += [line(entry, number) for entry in entries]
     features = block[24]
     return [
         "accept",

@@ -32,7 +32,7 @@ use Rattle.standard_slots.specs.Said.{pointAt, rangeIn, said}
 use Rattle.standard_reading.specs.Slots.{judged}
 use Rattle.standard_reading.specs.Block.{recordOf, standardOf}
 use Rattle.demands.specs.Specimen.{specimen, lobby, specimenWith, named}
-use Rattle.demands.specs.Panels.{fullBlock, rangeBlock, blankBeside, showing, specimenShows, fullShows, rangeShows}
+use Rattle.demands.specs.Panels.{fullBlock, rangeBlock, twoTimings, blankBeside, showing, specimenShows, fullShows, rangeShows, twoShow}
 
 -- a block, and what one of the two readings makes of it
 pub data Case : Type 0 where
@@ -101,8 +101,9 @@ cases =
     standard-reads (set (set (with (0x0a ∷ 0x20 ∷ 0x20 ∷ 0x20 ∷ 0x20 ∷ 0x20 ∷ 0x00 ∷ []) 101 108) 93 0xfd) 127 0x1c) (blankBeside 5 90) ∷
     standard-reads (set (set specimen 62 0x81) 127 0x6a) (blankBeside 6 54) ∷
     standard-reads fullBlock fullShows ∷
-    standard-reads rangeBlock rangeShows ∷ []
+    standard-reads rangeBlock rangeShows ∷
+    standard-reads twoTimings twoShow ∷ []
 
 pub cases-hold : Hold cases
-unfolding cases shortest longest six fullBlock rangeBlock showing specimenShows fullShows rangeShows specimen lobby specimenWith named byte word long header maker date product version inputOf input sizeOf gammaFrom dpmsOf dpms display color front flagsBy established standardTimingOf pairOf pair pairs scan padding skip span text syncOf fitted axes timingOf timed detailed spaces closing pointOf point ended second points white stringOf string rawOf raw tagged descriptor later slots parts plain reading tagOf standardOf beforeSlots judged recordOf said pointAt rangeIn timingIn productIn colorsIn inputBy imageOf gammaOf featuresOf pointBy flagsOf pairBy secondaryOf closingRefusal rangeRefusal blank backPorch acrossOf downOf ofBits ofInt add div
-cases-hold = (refl, (refl, (refl, (refl, (refl, (refl, (refl, (refl, (refl, (refl, (refl, (refl, (refl, (refl, (refl, (refl, (refl, (refl, (refl, (refl, (refl, (refl, (refl, (refl, (refl, (refl, (refl, (refl, (refl, (refl, (refl, (refl, tt))))))))))))))))))))))))))))))))
+unfolding cases shortest longest six fullBlock rangeBlock twoTimings showing specimenShows fullShows rangeShows twoShow specimen lobby specimenWith named byte word long header maker date product version inputOf input sizeOf gammaFrom dpmsOf dpms display color front flagsBy established standardTimingOf pairOf pair pairs scan padding skip span text syncOf fitted axes timingOf timed detailed spaces closing pointOf point ended second points white stringOf string rawOf raw tagged descriptor later slots parts plain reading tagOf standardOf beforeSlots judged recordOf said pointAt rangeIn timingIn productIn colorsIn inputBy imageOf gammaOf featuresOf pointBy flagsOf pairBy secondaryOf closingRefusal rangeRefusal blank backPorch acrossOf downOf ofBits ofInt add div
+cases-hold = (refl, (refl, (refl, (refl, (refl, (refl, (refl, (refl, (refl, (refl, (refl, (refl, (refl, (refl, (refl, (refl, (refl, (refl, (refl, (refl, (refl, (refl, (refl, (refl, (refl, (refl, (refl, (refl, (refl, (refl, (refl, (refl, (refl, tt)))))))))))))))))))))))))))))))))

@@ -1,5 +1,5 @@
--- What the standard reading makes of the specimen, and of two more blocks: one with an analog input and as many pairs as there can be, and one
--- with a white point and ranges.
+-- What the standard reading makes of the specimen, and of three more blocks: one with an analog input and as many pairs as there can be, one
+-- with a white point and ranges, and one with two timings.
 use Prim.Native.Nat.{ℕ}
 use mathlib.Core.Bool.{true, false}
 use mathlib.Core.List.{List, [], _∷_, _++_, map}
@@ -15,6 +15,7 @@ use Rattle.standard_record.specs.declared.HeldPoint.{HeldPoint}
 use Rattle.standard_record.specs.declared.StandardTiming.{StandardTiming}
 use Rattle.standard_record.specs.declared.HeldPair.{HeldPair}
 use Rattle.standard_record.specs.declared.DetailedTiming.{DetailedTiming}
+use Rattle.standard_record.specs.declared.HeldTiming.{HeldTiming}
 use Rattle.standard_record.specs.declared.Held.{Held}
 use Rattle.standard_record.specs.declared.Descriptor.{Descriptor}
 use Rattle.standard_record.specs.declared.Descriptor.the-variants.{Name, Range, MakerDefined}
@@ -52,6 +53,10 @@ rangeBlock =
     0x00 ∷ 0x00 ∷ 0x00 ∷ 0xfd ∷ 0x00 ∷ 0x38 ∷ 0x4b ∷ 0x1e ∷ 0x53 ∷ 0x0f ∷ 0x00 ∷ 0x0a ∷ 0x20 ∷ 0x20 ∷ 0x20 ∷ 0x20 ∷ 0x20 ∷ 0x20 ∷
     0x00 ∷ 0x20 ∷ [])
 
+-- the first timing in the third slot too
+unfoldable pub twoTimings : List ℕ
+twoTimings = take 90 specimen ++ drop 54 (take 72 specimen) ++ drop 108 (take 127 specimen) ++ (0x51 ∷ [])
+
 -- ---- their records
 
 -- a refusal, with the filler beside it
@@ -74,9 +79,9 @@ lobbyTiming active = record {
   sync = DigitalSeparate Positive Positive;
 }
 
--- the specimen's record with this input, these pixels across, and these lists: an array and a length each
-unfoldable pub showing : VideoInput → ℕ → List HeldPoint → ℕ → List HeldPair → ℕ → List Held → ℕ → StandardReading
-showing input active points pointed standards listed entries entered =
+-- the specimen's record with this input and these lists: an array and a length each
+unfoldable pub showing : VideoInput → List HeldTiming → ℕ → List HeldPoint → ℕ → List HeldPair → ℕ → List Held → ℕ → StandardReading
+showing input timings timed points pointed standards listed entries entered =
     record {
       edid = record {
         product = record { maker = record { 0 = 0x41; 1 = 0x42; 2 = 0x43 }; code = 4660; serial = 1; week = 10; year = 2020 };
@@ -102,7 +107,7 @@ showing input active points pointed standards listed entries entered =
         timings = record {
           established = record { items = pad 17 0 (0 ∷ 11 ∷ 16 ∷ []); len = 3 };
           standard = record { items = standards; len = listed };
-          detailed = record { items = heldTiming .wrap 1 (lobbyTiming active) ∷ blankDetailed ∷ blankDetailed ∷ blankDetailed ∷ []; len = 1 };
+          detailed = record { items = timings; len = timed };
         };
         descriptors = record { items = entries; len = entered };
         extensions = 0;
@@ -113,16 +118,20 @@ showing input active points pointed standards listed entries entered =
 abbrev mode : ℕ → ℕ → ℕ → ℕ → StandardTiming
 mode width w h rate = record { width = width; ratio = record { width = w; height = h }; rate = rate }
 
+-- one timing, in the first slot
+abbrev oneTiming : ℕ → List HeldTiming
+oneTiming active = pad 4 blankDetailed (heldTiming .wrap 1 (lobbyTiming active) ∷ [])
+
 unfoldable pub specimenShows : ℕ → StandardReading
 specimenShows active =
-    showing (Digital true) active (pad 6 blankWhite []) 0 (pad 26 blankStandard (heldPair .wrap 0 (mode 1280 5 4 60) ∷ [])) 1 (
+    showing (Digital true) (oneTiming active) 1 (pad 6 blankWhite []) 0 (pad 26 blankStandard (heldPair .wrap 0 (mode 1280 5 4 60) ∷ [])) 1 (
     held .wrap 2 (Name (record { start = 77; len = 5 })) ∷
     held .wrap 3 (MakerDefined 0 (record { start = 95; len = 13 })) ∷
     held .wrap 4 (MakerDefined 0 (record { start = 113; len = 13 })) ∷ []) 3
 
 unfoldable pub fullShows : StandardReading
 fullShows =
-    showing (Analog 1 false (record { serrated = true; green = true; composite = false; separate = true })) 800 (pad 6 blankWhite []) 0 (
+    showing (Analog 1 false (record { serrated = true; green = true; composite = false; separate = true })) (oneTiming 800) 1 (pad 6 blankWhite []) 0 (
     map (heldPair .wrap 0) (
     mode 256 16 10 60 ∷ mode 264 4 3 61 ∷ mode 272 5 4 62 ∷ mode 280 16 9 63 ∷ mode 288 16 10 64 ∷ mode 296 4 3 65 ∷
     mode 304 5 4 66 ∷ mode 312 16 9 67 ∷ [])
@@ -140,6 +149,13 @@ ranged t = Range (record { vmin = 56; vmax = 75; hmin = 30000; hmax = 83000; clo
 
 unfoldable pub rangeShows : StandardReading
 rangeShows =
-    showing (Digital true) 800 (pad 6 blankWhite (heldPoint .wrap 2 (record { index = 2; place = record { x = 322; y = 338 }; gamma = Gamma.None }) ∷ [])) 1
+    showing (Digital true) (oneTiming 800) 1 (pad 6 blankWhite (heldPoint .wrap 2 (record { index = 2; place = record { x = 322; y = 338 }; gamma = Gamma.None }) ∷ [])) 1
     (pad 26 blankStandard (heldPair .wrap 0 (mode 1280 5 4 60) ∷ [])) 1
     (pad 3 blankHeld (held .wrap 3 (ranged (GTF 80000 80 0 128 40)) ∷ held .wrap 4 (ranged None) ∷ [])) 2
+
+unfoldable pub twoShow : StandardReading
+twoShow =
+    showing (Digital true) (pad 4 blankDetailed (heldTiming .wrap 1 (lobbyTiming 800) ∷ heldTiming .wrap 3 (lobbyTiming 800) ∷ [])) 2
+    (pad 6 blankWhite []) 0 (pad 26 blankStandard (heldPair .wrap 0 (mode 1280 5 4 60) ∷ [])) 1 (pad 3 blankHeld (
+    held .wrap 2 (Name (record { start = 77; len = 5 })) ∷
+    held .wrap 4 (MakerDefined 0 (record { start = 113; len = 13 })) ∷ [])) 2

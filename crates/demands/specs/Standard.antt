@@ -7,7 +7,7 @@ use Rattle.fixed.specs.Numbered.{turns}
 use Rattle.steps.specs.declared.Refusal.{Refusal}
 use Rattle.standard_record.specs.Filler.{blank}
 use Rattle.standard_record.specs.Held.{heldPair}
-use Rattle.standard_record.specs.Seen.{seen, Same, holding, shows}
+use Rattle.standard_record.specs.Seen.{Seen, seen, Same, holding, shows}
 use Rattle.standard_record.specs.declared.Verdict.the-variants.{Accepted, Refused}
 use Rattle.standard_slots.specs.Said.{four, lists, pairsAt}
 use Rattle.standard_slots.specs.Few.{OneKind, one-kind}
@@ -16,7 +16,7 @@ use Rattle.standard_reading.specs.Slots.{saidIn}
 use Rattle.standard_reading.specs.Block.{plain, recordOf, beside, standardOf}
 use Rattle.standard_reading.specs.Judged.{end-is-verdict, bounded, sounds}
 use Rattle.standard_reading.specs.Room.{fits, accepted}
-use Rattle.standard_reading.specs.Entries.{entries, NeverFall, never-fall, entries-0, entries-of-slot}
+use Rattle.standard_reading.specs.Entries.{entries, AllNeverFall, never-fall, entries-0, entries-of-slot, SameEntries, known-by-entries}
 
 -- ---- an accepted block
 
@@ -40,10 +40,10 @@ known-by-what-it-shows s t e h same =
 pub spans-inside : (s : List ℕ) → standardOf s .end ≡ Accepted → Sounds s (seen (standardOf s .edid) .descriptors) 126
 spans-inside s e = rw (nothing-dropped s e) (sounds s e)
 
--- ---- the slot numbers of an accepted block
+-- ---- the slot numbers of an accepted block: slot i, counted from 0, has the number i + 1
 
 -- along each of the four lists they never fall, and are 0 to 4
-pub slot-numbers-never-fall : (s : List ℕ) → standardOf s .end ≡ Accepted → NeverFall (seen (standardOf s .edid))
+pub slot-numbers-never-fall : (s : List ℕ) → standardOf s .end ≡ Accepted → AllNeverFall (seen (standardOf s .edid))
 slot-numbers-never-fall s e = rw (nothing-dropped s e) (never-fall s)
 
 -- the entries numbered i + 1 are what slot i says, in its order
@@ -60,10 +60,15 @@ pub number-0-for-the-eight-pairs : (s : List ℕ) → standardOf s .end ≡ Acce
     → entries 0 (seen (standardOf s .edid)) ≡ four [] (pairsAt s 38 8) [] []
 number-0-for-the-eight-pairs s e = rw (nothing-dropped s e) (entries-0 s)
 
--- these come first
+-- these come first, then the pairs of slot after slot
 pub eight-pairs-first : (s : List ℕ) → standardOf s .end ≡ Accepted
     → seen (standardOf s .edid) .standard ≡ map (heldPair .wrap 0) (pairsAt s 38 8) ++ turns heldPair (λ i. lists (saidIn s i) .pairs) 4
 eight-pairs-first s e = ap (λ x. x .standard) (nothing-dropped s e)
+
+-- and no other lists are so: two entries swapped, between slots or within one, are other entries of a number, or a number that falls
+pub no-other-lists : (s : List ℕ) → standardOf s .end ≡ Accepted → (x : Seen) → AllNeverFall x
+    → ((n : ℕ) → n ≤ 4 → entries n x ≡ entries n (seen (standardOf s .edid))) → SameEntries x (seen (standardOf s .edid))
+no-other-lists s e x r h = known-by-entries x (seen (standardOf s .edid)) r (slot-numbers-never-fall s e) h
 
 -- ---- a refused block
 

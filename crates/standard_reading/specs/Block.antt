@@ -26,11 +26,11 @@ use Rattle.standard_reading.specs.Slots.{saidIn, verdictOf}
 abbrev pub flagsIn : List ℕ → List ℕ
 flagsIn s = flagsOf (s ! 35) (s ! 36) (s ! 37)
 
--- those of the first n slots, slot i as number i + 1
+-- those of the first n slots; that of slot i, counted from 0, has the number i + 1
 abbrev pub timingsOf : List ℕ → ℕ → List HeldTiming
 timingsOf s n = turns heldTiming (λ i. lists (saidIn s i) .timings) n
 
--- the eight pairs first, as number 0
+-- the eight pairs first, with 0
 abbrev pub pairsOf : List ℕ → ℕ → List HeldPair
 pairsOf s n = map (heldPair .wrap 0) (pairsAt s 38 8) ++ turns heldPair (λ i. lists (saidIn s i) .pairs) n
 

@@ -17,6 +17,7 @@ heldPoint = record {
   entry = λ h. h .point;
   number-is = λ n p. refl;
   entry-is = λ n p. refl;
+  whole = λ h. refl;
 }
 
 abbrev pub heldPair : Wrapper StandardTiming HeldPair
@@ -26,6 +27,7 @@ heldPair = record {
   entry = λ h. h .pair;
   number-is = λ n p. refl;
   entry-is = λ n p. refl;
+  whole = λ h. refl;
 }
 
 abbrev pub heldTiming : Wrapper DetailedTiming HeldTiming
@@ -35,6 +37,7 @@ heldTiming = record {
   entry = λ h. h .timing;
   number-is = λ n t. refl;
   entry-is = λ n t. refl;
+  whole = λ h. refl;
 }
 
 abbrev pub held : Wrapper Descriptor Held
@@ -44,4 +47,5 @@ held = record {
   entry = λ h. h .descriptor;
   number-is = λ n d. refl;
   entry-is = λ n d. refl;
+  whole = λ h. refl;
 }

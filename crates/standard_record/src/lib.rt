@@ -225,7 +225,7 @@ pub struct HeldPoint {
     pub slot: u16,
 }
 
-// Five numbers of 16 bits, 10 bytes with no padding: a list of them is cleared and copied in wide moves.
+// Five numbers of 16 bits, 10 bytes with no padding: docs/BENCHMARK.md has what other layouts cost.
 pub struct HeldPair {
     pub pair: StandardTiming,
     pub slot: u16,

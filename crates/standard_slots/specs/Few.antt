@@ -60,7 +60,7 @@ few i t at =
 
 -- ---- a slot feeds one list at most
 
--- all but one of the four are empty
+-- at least three of the four are empty
 pub data OneKind (x : Lists) : Type 0 where
   timings-alone : x .pairs ≡ [] → x .points ≡ [] → x .descriptors ≡ [] → OneKind x
   pairs-alone : x .timings ≡ [] → x .points ≡ [] → x .descriptors ≡ [] → OneKind x
