@@ -65,7 +65,7 @@ pub eight-pairs-first : (s : List ℕ) → standardOf s .end ≡ Accepted
     → seen (standardOf s .edid) .standard ≡ map (heldPair .wrap 0) (pairsAt s 38 8) ++ turns heldPair (λ i. lists (saidIn s i) .pairs) 4
 eight-pairs-first s e = ap (λ x. x .standard) (nothing-dropped s e)
 
--- and no other lists are so: two entries swapped, between slots or within one, are other entries of a number, or a number that falls
+-- and no other lists keep these promises: with two of their entries swapped, a number has other entries, or the numbers fall
 pub no-other-lists : (s : List ℕ) → standardOf s .end ≡ Accepted → (x : Seen) → AllNeverFall x
     → ((n : ℕ) → n ≤ 4 → entries n x ≡ entries n (seen (standardOf s .edid))) → SameEntries x (seen (standardOf s .edid))
 no-other-lists s e x r h = known-by-entries x (seen (standardOf s .edid)) r (slot-numbers-never-fall s e) h
