@@ -154,17 +154,17 @@ fn chroma_line(out: &mut [u8; 4096], at: usize, c: Chromaticities) -> usize
     page::newline(out, n)
 }
 
-fn white_line(out: &mut [u8; 4096], at: usize, h: HeldPoint) -> usize
-    ensures { λ r. ⌜ page (now (out .exit)) r ≡ page (now (out .entry)) at ▷ lines.whiteLine h ⌝ }
+fn white_line(out: &mut [u8; 4096], at: usize, p: HeldPoint) -> usize
+    ensures { λ r. ⌜ page (now (out .exit)) r ≡ page (now (out .entry)) at ▷ lines.whiteLine p ⌝ }
 {
-    let w = h.point;
+    let w = p.point;
     let t = w.gamma;
     let mut n = page::bytes(out, at, b"white");
     n = page::field8(out, n, w.index);
     n = page::field16(out, n, w.place.x);
     n = page::field16(out, n, w.place.y);
     n = gamma(out, n, t);
-    n = page::field16(out, n, h.slot);
+    n = page::field16(out, n, p.slot);
     page::newline(out, n)
 }
 

@@ -55,10 +55,10 @@ fn sync(out: &mut [u8; 4096], at: usize, t: Sync) -> usize
     }
 }
 
-fn detailed_line(out: &mut [u8; 4096], at: usize, h: HeldTiming) -> usize
-    ensures { λ r. ⌜ page (now (out .exit)) r ≡ page (now (out .entry)) at ▷ lines.detailedLine h ⌝ }
+fn detailed_line(out: &mut [u8; 4096], at: usize, t: HeldTiming) -> usize
+    ensures { λ r. ⌜ page (now (out .exit)) r ≡ page (now (out .entry)) at ▷ lines.detailedLine t ⌝ }
 {
-    let d = h.timing;
+    let d = t.timing;
     // an enum that is a field is copied before it is passed
     let kind = d.sync;
     let glasses = d.stereo;
@@ -67,7 +67,7 @@ fn detailed_line(out: &mut [u8; 4096], at: usize, h: HeldTiming) -> usize
     n = page::field16(out, n, d.size.height);
     n = shared_lines::border_to_stereo(out, n, d.border, d.interlaced, glasses);
     n = sync(out, n, kind);
-    n = page::field16(out, n, h.slot);
+    n = page::field16(out, n, t.slot);
     page::newline(out, n)
 }
 
