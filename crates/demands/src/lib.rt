@@ -1,2 +1,3 @@
-// What is shown of the definitions, by proof and by computation: demand 3 (specs/Demands.antt) and worked cases (specs/Cases.antt).
+// What is shown of the definitions, by proof and by computation: demand 3 (specs/Demands.antt), worked cases (specs/Cases.antt), and of the code's answers
+// sums of parts (specs/Sums.antt).
 // There is no code here.
