@@ -37,14 +37,17 @@ is-sum (κs, slice, e, _, l) = l ∙ ap byteSum e
 pub is-zero : {s : List ℕ} {z : Bool} → SumIsZero s z → z ≡ eqb (byteSum s) 0
 is-zero (κs, slice, e, _, l) = l ∙ ap (λ (s : List ℕ). eqb (byteSum s) 0) e
 
--- ---- the three laws, of `byte_sum`
+-- ---- the three laws
 
 pub of-none : {r : ℕ} → ByteSum [] r → r ≡ 0
 of-none h = is-sum h ∙ empty
 
--- the two parts at any cut
+-- at any cut the answers of the two parts, added wrapping, are that of the block; and `edid_sum_is_zero` says whether that is 0
 pub at-a-cut : (s : List ℕ) (k : ℕ) {r a b : ℕ} → ByteSum s r → ByteSum (take k s) a → ByteSum (drop k s) b → r ≡ plus a b
 at-a-cut s k h ha hb = rw (is-sum h, is-sum ha, is-sum hb, sym (joined (take k s) (drop k s)), take-append-drop k s)
+
+pub zero-at-a-cut : (s : List ℕ) (k : ℕ) {z : Bool} {a b : ℕ} → SumIsZero s z → ByteSum (take k s) a → ByteSum (drop k s) b → z ≡ eqb (plus a b) 0
+zero-at-a-cut s k h ha hb = is-zero h ∙ ap (λ (n : ℕ). eqb n 0) (at-a-cut s k (answered s .0) ha hb)
 
 pub of-one-changed : (s : List ℕ) (i new : ℕ) {r r′ : ℕ} → i < length s → ByteSum s r → ByteSum (set s i new) r′
     → r′ ≡ plus r (minus new (getD s i 0))
@@ -71,7 +74,7 @@ module _ {ps : List (List ℕ)} {xs : List ℕ} (hs : Forall₂ ByteSum ps xs) w
   pub closed-by-parts : {z : Bool} → SumIsZero (flatten ps ++ minus 0 (foldl plus 0 xs) ∷ []) z → z ≡ true
   closed-by-parts h = rw (is-zero h, by-parts, checksum-makes-zero (flatten ps) .1)
 
--- as the specimen's last byte is
+-- so the specimen ends: its last byte is the checksum of the 127 before it
 pub specimen-ends-with-its-checksum : drop 127 specimen ≡ checksum (take 127 specimen) ∷ []
 unfolding specimen
 specimen-ends-with-its-checksum = refl
