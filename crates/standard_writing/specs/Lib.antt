@@ -1,0 +1,3 @@
+-- What the contracts of `standard_writing` cite.
+pub mod Places
+pub mod Filled

@@ -1,0 +1,287 @@
+-- Where all parts of a record fit, its canonical block gives it.
+use Prim.Native.Nat.{ℕ, zero, suc, _+_, _*_, _<_, _≤_}
+use mathlib.Core.Path.{_≡_, refl, sym, ap, ap₂, _∙_, subst}
+use mathlib.Core.Bool.{Bool, true, false, cond}
+use mathlib.Core.List.{List, [], _∷_, _++_, map, append-nil, append-assoc}
+use native.Mathlib.Nat.{mul-comm}
+use native.Mathlib.Omega.{arith}
+use lib.Dec.{eqb}
+use lib.ListN.{length, take, drop, length-append}
+use lib.Seq.{drop-append-add, drop-at, take-at, getD-at, getD-append-add}
+use borrow.Author.Tests.{eq-eqb, eqb-true, eqb-false}
+use Rattle.bits.specs.Bytes.{_!_, part}
+use Rattle.fixed.specs.Gather.{gather}
+use Rattle.fixed.specs.Numbered.{Wrapper, turns, numbered, told}
+use Rattle.sums.specs.Sum.{byteSum}
+use Rattle.sums.specs.Joined.{checksum, checksum-makes-zero}
+use Rattle.standard_record.specs.Seen.{Seen, seen, shows as holds}
+use Rattle.standard_record.specs.Held.{heldPair, heldPoint, heldTiming, held}
+use Rattle.standard_record.specs.declared.StandardRecord.{StandardRecord}
+use Rattle.standard_record.specs.declared.StandardTiming.{StandardTiming}
+use Rattle.standard_record.specs.declared.DetailedTiming.{DetailedTiming}
+use Rattle.standard_record.specs.declared.Verdict.the-variants.{Accepted}
+use Rattle.standard_parts.specs.Timings.{flagsOf}
+use Rattle.standard_head.specs.Head.{productIn, colorsIn}
+use Rattle.standard_verdict.specs.Verdict.{isHeader, beforeSlots}
+use Rattle.standard_slots.specs.Said.{Said, refusal, nothing, timing, pairs, points, described, lists, pairAt, pairsAt, said}
+use Rattle.standard_reading.specs.Slots.{start, saidIn, judge, judged}
+use Rattle.standard_reading.specs.Block.{timingsOf, pairsOf, pointsOf, descriptorsOf, plain, standardOf}
+use Rattle.standard_reading.specs.Judged.{end-is-verdict}
+use Rattle.standard_reading.specs.Room.{fits, accepted}
+use Rattle.write_leaf.specs.Bytes.{Bytes}
+use Rattle.write_pairs.specs.Pairs.{pairsBytes, All, Back}
+use Rattle.write_pairs.specs.Run.{run, run-at-most}
+use Rattle.write_pairs.specs.Laws.{pairs-back}
+use Rattle.write_head.specs.Front.{Front, frontBytes, ReadsFront}
+use Rattle.write_slots.specs.Words.{SpanInside, words, Entries, entries, these, shows}
+use Rattle.write_slots.specs.Slot.{slotBytes}
+use Rattle.write_slots.specs.Laws.{shown-in-block, shown-timing}
+use Rattle.write_block.specs.Shown.{Shown, shown, worded, heldWords, frontOf}
+use Rattle.write_block.specs.Canonical.{slotOf, body, blockOf}
+use Rattle.write_block.specs.Gives.{Gives, SpansInside}
+use Rattle.write_block.specs.Taken.{Empty, eight, rest, taken}
+use Rattle.write_block.specs.Holds.{entriesOf, Holds, slotFrom}
+use Rattle.write_block.specs.Turns.{gather-same, turns-same, turns-map, all-turns}
+use Rattle.write_block.specs.Slots.{all-turns as lists-are}
+use Rattle.write_block.specs.Leaves.{pairs-length, pairs-behind}
+use Rattle.write_block.specs.Given.{not-refused, said-timing, said-later}
+
+-- ---- lists of parts
+
+-- parts of k bytes each, one after the other
+gather-length : (f : ℕ → List ℕ) (k n : ℕ) → ((i : ℕ) → i < n → length (f i) ≡ k) → length (gather f n) ≡ n * k
+gather-length f k zero h = omega arith
+gather-length f k (suc n) h = omega (arith, length-append (gather f n) (f n), gather-length f k n (λ i l. h i (omega arith)), h n (omega arith))
+
+part-of-gather : (f : ℕ → List ℕ) (k n i : ℕ) → ((i : ℕ) → i < n → length (f i) ≡ k) → i < n → (s : List ℕ) → part (gather f n ++ s) (k * i) k ≡ f i
+part-of-gather f k zero i h l s = absurd (omega arith)
+part-of-gather f k (suc n) i h l s =
+    ap (λ b. part b (k * i) k) (append-assoc (gather f n) (f n) s) ∙ go (eqb i n) refl (λ m. part-of-gather f k n i (λ j z. h j (omega arith)) m (f n ++ s))
+  where
+    go : (z : Bool) → eqb i n ≡ z → (i < n → part (gather f n ++ (f n ++ s)) (k * i) k ≡ f i) → part (gather f n ++ (f n ++ s)) (k * i) k ≡ f i
+    go true p before =
+        rw (
+          eqb-true i n p,
+          drop-at (gather f n) (f n ++ s) (k * n) (gather-length f k n (λ j z. h j (omega arith)) ∙ mul-comm n k),
+          take-at (f n) s k (h n (omega arith)),
+        )
+    go false p before = before (omega (arith, eqb-false i n p))
+
+-- what shows entries is not refused
+is-accepted : (s : List ℕ) (x : Said) (at : ℕ) (l : Entries) → shows s x ≡ these l → judge x at ≡ Accepted
+is-accepted s (refusal n) at l e = cc
+is-accepted s nothing at l e = refl
+is-accepted s (timing d) at l e = refl
+is-accepted s (pairs ps) at l e = refl
+is-accepted s (points ws) at l e = refl
+is-accepted s (described d) at l e = refl
+
+these-one : {l m : Entries} → these l ≡ these m → l ≡ m
+these-one e = cc
+
+-- the front is read alike whatever stands behind it
+front-reads : (f g : Front) (s : List ℕ) → ReadsFront (frontBytes f) g → ReadsFront (frontBytes f ++ s) g
+unfolding frontBytes productIn colorsIn
+front-reads f g s h = record {
+  header = h .header;
+  one = h .one;
+  product = h .product;
+  version = h .version;
+  display = h .display;
+  basic = h .basic;
+  established = h .established;
+}
+
+-- ---- the record
+
+-- each part fits, and the lists are used up
+pub record Fit (r : StandardRecord) (lent : List ℕ) : Type 0 where
+  pub front : ReadsFront (frontBytes (frontOf (seen r))) (frontOf (seen r))
+  pub pairs : All Back (eight (seen r))
+  pub slots : (i : ℕ) → i < 4 → Holds lent (slotFrom lent (taken (seen r) i)) (taken (seen r) i)
+  pub first : 0 < length (taken (seen r) 0 .timings)
+  pub used : Empty (rest (seen r) 4)
+
+module _ (r : StandardRecord) (lent : List ℕ) (fit : Fit r lent) where
+  abbrev x : Seen
+  x = seen r
+
+  -- the lists are what the slots take
+  record Lists : Type 0 where
+    timings : x .detailed ≡ turns heldTiming (λ i. taken x i .timings) 4
+    pairs : x .standard ≡ map (heldPair .wrap 0) (eight x) ++ turns heldPair (λ i. taken x i .pairs) 4
+    points : x .points ≡ turns heldPoint (λ i. taken x i .points) 4
+    descriptors : x .descriptors ≡ turns held (λ i. taken x i .descriptors) 4
+
+  lists-of : Lists
+  lists-of =
+      let l = lists-are x 4 in
+      record {
+        timings = l .timings ∙ rw (fit .used .timings, append-nil);
+        pairs = l .pairs ∙ rw (fit .used .pairs, append-nil);
+        points = l .points ∙ rw (fit .used .points, append-nil);
+        descriptors = l .descriptors ∙ rw (fit .used .descriptors, append-nil);
+      }
+
+  words-of : map (heldWords lent) (x .descriptors) ≡ turns worded (λ i. map (words lent) (taken x i .descriptors)) 4
+  words-of = ap (map (heldWords lent)) (lists-of .descriptors) ∙ turns-map held worded (words lent) (heldWords lent) (λ h. refl) (λ h. refl) (λ n d. refl) (λ i. taken x i .descriptors) 4
+
+  -- ---- the block, from what the slots take
+
+  abbrev parts : ℕ → List ℕ
+  parts i = slotFrom lent (taken x i)
+
+  slot-is : (i : ℕ) → i < 4 → slotOf (shown lent x) (i + 1) ≡ parts i
+  slot-is i h =
+      let l = lists-of in
+      let ts = ap (numbered heldTiming (i + 1)) (l .timings) ∙ told heldTiming [] (λ i. taken x i .timings) 4 .turn i h in
+      let ps = ap (numbered heldPair (i + 1)) (l .pairs) ∙ told heldPair (eight x) (λ i. taken x i .pairs) 4 .turn i h in
+      let ws = ap (numbered heldPoint (i + 1)) (l .points) ∙ told heldPoint [] (λ i. taken x i .points) 4 .turn i h in
+      let ds = ap (numbered worded (i + 1)) words-of ∙ told worded [] (λ i. map (words lent) (taken x i .descriptors)) 4 .turn i h in
+      λ j. slotBytes (ts j) (ps j) (ws j) (ds j)
+
+  eight-is : numbered heldPair 0 (x .standard) ≡ eight x
+  eight-is = ap (numbered heldPair 0) (lists-of .pairs) ∙ told heldPair (eight x) (λ i. taken x i .pairs) 4 .before
+
+  pub body-is : body (shown lent x) ≡ frontBytes (frontOf x) ++ (pairsBytes 8 (eight x) ++ (gather parts 4 ++ x .extensions ∷ []))
+  unfolding body
+  body-is =
+      let slots = gather-same (λ i. slotOf (shown lent x) (i + 1)) parts 4 slot-is in
+      λ j. frontBytes (frontOf x) ++ (pairsBytes 8 (eight-is j) ++ (slots j ++ x .extensions ∷ []))
+
+  abbrev b : List ℕ
+  b = blockOf (shown lent x)
+
+  -- behind the front, and behind the eight pairs
+  abbrev last : List ℕ
+  last = x .extensions ∷ checksum (body (shown lent x)) ∷ []
+
+  block-is : b ≡ frontBytes (frontOf x) ++ (pairsBytes 8 (eight x) ++ (gather parts 4 ++ last))
+  block-is =
+      ap (λ s. s ++ checksum (body (shown lent x)) ∷ []) body-is
+      ∙ append-assoc (frontBytes (frontOf x)) (pairsBytes 8 (eight x) ++ (gather parts 4 ++ x .extensions ∷ [])) _
+      ∙ ap (λ s. frontBytes (frontOf x) ++ s) (append-assoc (pairsBytes 8 (eight x)) (gather parts 4 ++ x .extensions ∷ []) _
+      ∙ ap (λ s. pairsBytes 8 (eight x) ++ s) (append-assoc (gather parts 4) (x .extensions ∷ []) _))
+
+  part-size : (i : ℕ) → i < 4 → length (parts i) ≡ 18
+  part-size i h = fit .slots i h .reads .size
+
+  front-size : length (frontBytes (frontOf x)) ≡ 38
+  unfolding frontBytes
+  front-size = refl
+
+  slots-size : length (gather parts 4) ≡ 72
+  slots-size = gather-length parts 18 4 part-size
+
+  pub whole : length b ≡ 128
+  whole = ap length block-is ∙ omega (
+    arith,
+    length-append (frontBytes (frontOf x)) (pairsBytes 8 (eight x) ++ (gather parts 4 ++ last)),
+    length-append (pairsBytes 8 (eight x)) (gather parts 4 ++ last),
+    length-append (gather parts 4) last,
+    front-size,
+    pairs-length 8 (eight x),
+    slots-size,
+  )
+
+  block-slot : (i : ℕ) → i < 4 → part b (start i) 18 ≡ parts i
+  block-slot i h =
+      let p : length (frontBytes (frontOf x) ++ pairsBytes 8 (eight x)) ≡ 54 =
+      omega (arith, length-append (frontBytes (frontOf x)) (pairsBytes 8 (eight x)), front-size, pairs-length 8 (eight x)) in
+      ap (λ s. part s (start i) 18) (block-is ∙ sym (append-assoc (frontBytes (frontOf x)) (pairsBytes 8 (eight x)) (gather parts 4 ++ last)))
+      ∙ ap (take 18) (ap (λ n. drop (n + 18 * i) ((frontBytes (frontOf x) ++ pairsBytes 8 (eight x)) ++ (gather parts 4 ++ last))) (sym p)
+      ∙ drop-append-add (frontBytes (frontOf x) ++ pairsBytes 8 (eight x)) (gather parts 4 ++ last) (18 * i))
+      ∙ part-of-gather parts 18 4 i part-size h last
+
+  -- ---- what is read of it
+
+  at-slot : (i : ℕ) → i < 4 → shows (parts i) (said i (parts i) 0) ≡ these (entriesOf lent (taken x i))
+  at-slot zero h = go (taken x 0 .timings) (fit .first) (fit .slots 0 h .reads .shown)
+    where
+      go : (ts : List DetailedTiming) → 0 < length ts
+          → shows (parts 0) (said 1 (parts 0) 0) ≡ these (entries ts (taken x 0 .pairs) (taken x 0 .points) (map (words lent) (taken x 0 .descriptors)))
+          → shows (parts 0) (said 0 (parts 0) 0) ≡ these (entries ts (taken x 0 .pairs) (taken x 0 .points) (map (words lent) (taken x 0 .descriptors)))
+      go [] l e = absurd (omega arith)
+      go (d ∷ ts) l e = rw (said-timing 0 1 (parts 0) 0 (shown-timing 1 (parts 0) d ts _ _ _ e .0)) e
+  at-slot (suc i) h = rw (said-later i (parts (suc i)) 0) (fit .slots (suc i) h .reads .shown)
+
+  in-block : (i : ℕ) → i < 4 → shows b (saidIn b i) ≡ these (entriesOf lent (taken x i))
+  in-block i h = shown-in-block b (start i) i ∙ ap (λ t. shows t (said i t 0)) (block-slot i h) ∙ at-slot i h
+
+  accepted-slot : (i : ℕ) → i < 4 → judge (saidIn b i) (start i) ≡ Accepted
+  accepted-slot i h = is-accepted b (saidIn b i) (start i) _ (in-block i h)
+
+  said-is : (i : ℕ) → i < 4 → entriesOf b (lists (saidIn b i)) ≡ entriesOf lent (taken x i)
+  said-is i h = these-one (sym (not-refused b (saidIn b i) (start i) (accepted-slot i h)) ∙ in-block i h)
+
+  front : ReadsFront b (frontOf x)
+  front = subst (λ s. ReadsFront s (frontOf x)) (sym block-is) (front-reads (frontOf x) (frontOf x) _ (fit .front))
+
+  verdict : judged b 4 ≡ Accepted
+  unfolding judged beforeSlots
+  verdict =
+      rw (
+        eq-eqb (length b) 128 whole,
+        front .header,
+        eq-eqb (byteSum b) 0 (checksum-makes-zero (body (shown lent x)) .1),
+        eq-eqb (b ! 18) 1 (front .one),
+        accepted-slot 0 (omega arith),
+        accepted-slot 1 (omega arith),
+        accepted-slot 2 (omega arith),
+        accepted-slot 3 (omega arith),
+      )
+
+  pairs-are : pairsAt b 38 8 ≡ eight x
+  pairs-are =
+      ap (λ s. pairsAt s 38 8) block-is
+      ∙ ap (λ n. pairsAt (frontBytes (frontOf x) ++ (pairsBytes 8 (eight x) ++ (gather parts 4 ++ last))) n 8) (sym front-size)
+      ∙ pairs-behind (frontBytes (frontOf x)) (pairsBytes 8 (eight x) ++ (gather parts 4 ++ last)) 8
+      ∙ pairs-back 8 (eight x) (gather parts 4 ++ last) (run-at-most heldPair 0 8 (x .standard)) (fit .pairs)
+
+  extensions-are : b ! 126 ≡ x .extensions
+  extensions-are =
+      let p : length ((frontBytes (frontOf x) ++ pairsBytes 8 (eight x)) ++ gather parts 4) ≡ 126 =
+      omega (
+        arith,
+        length-append (frontBytes (frontOf x) ++ pairsBytes 8 (eight x)) (gather parts 4),
+        length-append (frontBytes (frontOf x)) (pairsBytes 8 (eight x)),
+        front-size,
+        pairs-length 8 (eight x),
+        slots-size,
+      ) in
+      ap (λ s. s ! 126) (block-is ∙ sym (append-assoc (frontBytes (frontOf x)) (pairsBytes 8 (eight x)) (gather parts 4 ++ last))
+      ∙ sym (append-assoc (frontBytes (frontOf x) ++ pairsBytes 8 (eight x)) (gather parts 4) last))
+      ∙ getD-at ((frontBytes (frontOf x) ++ pairsBytes 8 (eight x)) ++ gather parts 4) (x .extensions) _ 0 126 p
+
+  same : shown b (plain b) ≡ shown lent x
+  same =
+      let f = front in
+      let l = lists-of in
+      let e = extensions-are in
+      let ts : timingsOf b 4 ≡ x .detailed = turns-same heldTiming _ _ 4 (λ i h. ap (λ (l : Entries). l .timings) (said-is i h)) ∙ sym (l .timings) in
+      let ps : pairsOf b 4 ≡ x .standard =
+      ap₂ _++_ (ap (map (heldPair .wrap 0)) pairs-are) (turns-same heldPair _ _ 4 (λ i h. ap (λ (l : Entries). l .pairs) (said-is i h))) ∙ sym (l .pairs) in
+      let ws : pointsOf b 4 ≡ x .points = turns-same heldPoint _ _ 4 (λ i h. ap (λ (l : Entries). l .points) (said-is i h)) ∙ sym (l .points) in
+      let ds : map (heldWords b) (descriptorsOf b 4) ≡ map (heldWords lent) (x .descriptors) =
+      turns-map held worded (words b) (heldWords b) (λ h. refl) (λ h. refl) (λ n d. refl) (λ i. lists (saidIn b i) .descriptors) 4
+      ∙ turns-same worded _ _ 4 (λ i h. ap (λ (l : Entries). l .descriptors) (said-is i h))
+      ∙ sym words-of in
+      λ j. record {
+        front = record { product = f .product j; version = f .version j; display = f .display j; basic = f .basic j; established = f .established j };
+        points = ws j;
+        standard = ps j;
+        detailed = ts j;
+        descriptors = ds j;
+        extensions = e j;
+      }
+
+  pub gives : Bytes b → Gives b r lent
+  gives h =
+      let v = end-is-verdict b ∙ verdict in
+      record {
+        bytes = h;
+        accepted = v;
+        inside = rw (lists-of .descriptors)
+            (all-turns held (λ d. SpanInside d (length lent)) (λ d. SpanInside (d .descriptor) (length lent)) (λ n d p. p) (λ i. taken x i .descriptors) 4 (λ i l. fit .slots i l .inside));
+        same = ap (λ e. shown b (seen e)) (accepted b v) ∙ ap (shown b) (holds (plain b) (fits b)) ∙ same;
+      }

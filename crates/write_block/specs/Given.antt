@@ -1,0 +1,204 @@
+-- Where a block gives a record: what each slot takes of the record's lists is what the block's slot shows, and nothing is left.
+use Prim.Native.Nat.{ℕ, zero, suc, _+_, _-_, _<_, _≤_}
+use mathlib.Core.Path.{_≡_, refl, sym, ap, _∙_}
+use mathlib.Core.Bool.{Bool, true, false}
+use mathlib.Core.List.{List, [], _∷_, _++_, map, cons≢nil}
+use native.Mathlib.Omega.{arith}
+use lib.Dec.{eqb, eqb·suc-zero}
+use lib.ListN.{length, take, drop, length-take, length-drop}
+use lib.Seq.{getD-take, getD-drop}
+use borrow.Author.Tests.{ne-eqb, eqb-true, eqb-false}
+use Rattle.bits.specs.Bytes.{_!_, part}
+use Rattle.sums.specs.Sum.{byteSum}
+use Rattle.standard_record.specs.Seen.{Seen, seen, shows as holds}
+use Rattle.standard_record.specs.Held.{heldPair, heldPoint, heldTiming, held}
+use Rattle.standard_record.specs.declared.StandardRecord.{StandardRecord}
+use Rattle.standard_record.specs.declared.DetailedTiming.{DetailedTiming}
+use Rattle.standard_record.specs.declared.Descriptor.{Descriptor}
+use Rattle.standard_record.specs.declared.Verdict.{Verdict}
+use Rattle.standard_record.specs.declared.Verdict.the-variants.{Accepted, Refused}
+use Rattle.standard_timing.specs.Timing.{clockIn, timingIn}
+use Rattle.standard_verdict.specs.Verdict.{must, _then_, isHeader, beforeSlots}
+use Rattle.standard_verdict.specs.Laws.{then-first}
+use Rattle.standard_slots.specs.Said.{Said, refusal, nothing, timing, pairs, points, described, lists, pairsAt, said}
+use Rattle.standard_slots.specs.Few.{Few, few, pairs-at-most}
+use Rattle.standard_reading.specs.Slots.{start, saidIn, judge, judged, verdictOf}
+use Rattle.standard_reading.specs.Block.{plain, standardOf}
+use Rattle.standard_reading.specs.Judged.{end-is-verdict, accepted-has-128}
+use Rattle.standard_reading.specs.Room.{fits, accepted}
+use Rattle.write_pairs.specs.Run.{run-own}
+use Rattle.write_pairs.specs.Pairs.{All}
+use Rattle.write_leaf.specs.Bytes.{Bytes}
+use Rattle.write_head.specs.Front.{Front, ReadsFront}
+use Rattle.write_slots.specs.Words.{SpanInside, words, Entries, entries, Shows, refused, these, shows}
+use Rattle.write_slots.specs.Laws.{shown-in-block, first-slot-timing, shown-timing}
+use Rattle.write_block.specs.Shown.{Shown, shown, worded, heldWords, frontOf}
+use Rattle.write_block.specs.Gives.{Gives, SpansInside}
+use Rattle.write_block.specs.Taken.{Rest, Empty, eight, rest, taken}
+use Rattle.write_block.specs.Holds.{entriesOf, Holds}
+use Rattle.write_block.specs.Turns.{turns-later, other-later, drop-own, later, turns-map}
+use Rattle.write_block.specs.Slots.{front, Ahead, taken-is, ahead}
+
+-- ---- the first slot and the others
+
+-- a slot with a clock says the same wherever it stands
+pub said-timing : (i j : ℕ) (t : List ℕ) (at : ℕ) → 0 < clockIn t → said i t at ≡ said j t at
+unfolding said
+said-timing i j t at h = rw (ne-eqb (clockIn t) 0 (omega arith))
+
+pub said-later : (i : ℕ) (t : List ℕ) (at : ℕ) → said (suc i) t at ≡ said 1 t at
+unfolding said
+said-later i t at = rw (eqb·suc-zero i)
+
+-- as it would in a slot that is not the first
+pub shown-later : (i : ℕ) (t : List ℕ) (l : Entries) → shows t (said i t 0) ≡ these l → shows t (said 1 t 0) ≡ these l
+shown-later zero t l h =
+    let f = first-slot-timing t l h in
+    let c = shown-timing 0 t (f .0) [] [] [] [] (h ∙ ap these (f .1)) in
+    rw (said-timing 1 0 t 0 (c .0)) h
+shown-later (suc i) t l h = rw (← said-later i t 0) h
+
+-- ---- an accepted block
+
+then-second : (v w : Verdict) → (v then w) ≡ Accepted → w ≡ Accepted
+then-second Accepted w e = e
+then-second (Refused f) w e = cc
+
+pub not-refused : (s : List ℕ) (x : Said) (at : ℕ) → judge x at ≡ Accepted → shows s x ≡ these (entriesOf s (lists x))
+not-refused s (refusal n) at e = cc
+not-refused s nothing at e = refl
+not-refused s (timing d) at e = refl
+not-refused s (pairs ps) at e = refl
+not-refused s (points ws) at e = refl
+not-refused s (described d) at e = refl
+
+-- a verdict on the slots up to n is one on each of them
+judged-each : (b : List ℕ) (n i : ℕ) → i < n → judged b n ≡ Accepted → judge (saidIn b i) (start i) ≡ Accepted
+unfolding judged
+judged-each b zero i h e = absurd (omega arith)
+judged-each b (suc n) i h e = go (eqb i n) refl (λ l. judged-each b n i l (then-first (judged b n) (judge (saidIn b n) (start n)) e))
+  where
+    go : (z : Bool) → eqb i n ≡ z → (i < n → judge (saidIn b i) (start i) ≡ Accepted) → judge (saidIn b i) (start i) ≡ Accepted
+    go true p before = rw (eqb-true i n p) (then-second (judged b n) (judge (saidIn b n) (start n)) e)
+    go false p before = before (omega (arith, eqb-false i n p))
+
+all-split : {A : Type 0} (P : A → Type 0) (xs ys : List A) → All P (xs ++ ys) → All P xs × All P ys
+all-split P [] ys h = (tt, h)
+all-split P (x ∷ xs) ys h = let r = all-split P xs ys (h .1) in ((h .0, r .0), r .1)
+
+map-empty : {A B : Type 0} (f : A → B) (xs : List A) → map f xs ≡ [] → xs ≡ []
+map-empty f [] e = refl
+map-empty f (x ∷ xs) e = absurd (cons≢nil e)
+
+bytes-take : (n : ℕ) (s : List ℕ) → Bytes s → Bytes (take n s)
+bytes-take zero s h j = omega arith
+bytes-take (suc n) [] h j = omega arith
+bytes-take (suc n) (x ∷ s) h zero = h 0
+bytes-take (suc n) (x ∷ s) h (suc j) = bytes-take n s (λ k. h (suc k)) j
+
+passed : (size header sum version : Bool) → (must size 7 0 then must header 2 0 then must sum 8 127 then must version 9 18) ≡ Accepted
+    → (header ≡ true) × (version ≡ true)
+passed false b c d e = (cc, cc)
+passed true false c d e = (cc, cc)
+passed true true false d e = (cc, cc)
+passed true true true false e = (cc, cc)
+passed true true true true e = (refl, refl)
+
+-- ---- the record that a block gives
+
+module _ (b : List ℕ) (r : StandardRecord) (lent : List ℕ) (g : Gives b r lent) where
+  abbrev x : Seen
+  x = seen r
+
+  same : shown b (plain b) ≡ shown lent x
+  same = sym (ap (λ e. shown b (seen e)) (accepted b (g .accepted)) ∙ ap (shown b) (holds (plain b) (fits b))) ∙ g .same
+
+  few-in : (i : ℕ) → Few (saidIn b i)
+  few-in i = few i (part b (start i) 18) (start i)
+
+  standard-is : x .standard ≡ map (heldPair .wrap 0) (pairsAt b 38 8) ++ later heldPair (λ i. lists (saidIn b i) .pairs) 0 4
+  standard-is = sym (ap (λ (s : Shown). s .standard) same) ∙ ap (λ l. map (heldPair .wrap 0) (pairsAt b 38 8) ++ l) (turns-later heldPair (λ i. lists (saidIn b i) .pairs) 4)
+
+  pub eight-is : eight x ≡ pairsAt b 38 8
+  eight-is = rw standard-is (run-own heldPair 0 8 (pairsAt b 38 8) _ (pairs-at-most b 38 8) (other-later heldPair (λ i. lists (saidIn b i) .pairs) 0 0 4 (omega arith)))
+
+  ahead-of : (i k : ℕ) → i + k ≡ 4 → Ahead lent b (saidIn b) i k (rest x i)
+  unfolding rest
+  ahead-of zero k e =
+      let four : k ≡ 4 = omega arith in
+      rw four (record {
+        timings = sym (ap (λ (s : Shown). s .detailed) same) ∙ turns-later heldTiming (λ i. lists (saidIn b i) .timings) 4;
+        pairs = rw (eight-is, standard-is) (drop-own heldPair 0 (pairsAt b 38 8) _);
+        points = sym (ap (λ (s : Shown). s .points) same) ∙ turns-later heldPoint (λ i. lists (saidIn b i) .points) 4;
+        descriptors =
+            sym (ap (λ (s : Shown). s .descriptors) same)
+            ∙ turns-map held worded (words b) (heldWords b) (λ h. refl) (λ h. refl) (λ n d. refl) (λ i. lists (saidIn b i) .descriptors) 4
+            ∙ turns-later worded (λ i. map (words b) (lists (saidIn b i) .descriptors)) 4;
+      })
+  ahead-of (suc i) k e = ahead lent b (saidIn b) few-in i k (rest x i) (ahead-of i (suc k) (omega arith))
+
+  inside-rest : (i : ℕ) → SpansInside (rest x i .descriptors) (length lent)
+  unfolding rest
+  inside-rest zero = g .inside
+  inside-rest (suc i) =
+      all-split (λ h. SpanInside (h .descriptor) (length lent)) (map (held .wrap (i + 1)) (taken x i .descriptors)) (rest x (suc i) .descriptors)
+      (rw (front x i .descriptors) at (inside-rest i)) .1
+
+  all-unwrapped : (n : ℕ) (ds : List Descriptor) → SpansInside (map (held .wrap n) ds) (length lent) → All (λ d. SpanInside d (length lent)) ds
+  all-unwrapped n [] h = tt
+  all-unwrapped n (d ∷ ds) h = (h .0, all-unwrapped n ds (h .1))
+
+  -- nothing is left after four slots
+  pub used-up : Empty (rest x 4)
+  used-up =
+      let a = ahead-of 4 0 (omega arith) in
+      record {
+        timings = a .timings;
+        pairs = a .pairs;
+        points = a .points;
+        descriptors = map-empty (heldWords lent) (rest x 4 .descriptors) (a .descriptors);
+      }
+
+  -- the bytes of each slot
+  module _ (i : ℕ) (h : i < 4) where
+    abbrev slot : List ℕ
+    slot = part b (start i) 18
+
+    shown-taken : shows slot (said i slot 0) ≡ these (entriesOf lent (taken x i))
+    shown-taken =
+        let k : i + suc (3 - i) ≡ 4 = omega arith in
+        sym (shown-in-block b (start i) i)
+        ∙ not-refused b (saidIn b i) (start i) (judged-each b 4 i h (sym (end-is-verdict b) ∙ g .accepted))
+        ∙ ap these (sym (taken-is lent b (saidIn b) few-in i (3 - i) (rest x i) (ahead-of i (suc (3 - i)) k)))
+
+    pub slot-bytes : Bytes slot
+    slot-bytes = bytes-take 18 (drop (start i) b) (λ j. rw (getD-drop (start i) b j 0) (g .bytes (start i + j)))
+
+    inside-taken : All (λ d. SpanInside d (length lent)) (taken x i .descriptors)
+    inside-taken =
+        all-unwrapped (i + 1) (taken x i .descriptors)
+        (all-split (λ h. SpanInside (h .descriptor) (length lent)) (map (held .wrap (i + 1)) (taken x i .descriptors)) (rest x (suc i) .descriptors)
+        (rw (front x i .descriptors) at (inside-rest i)) .0)
+
+    pub slot-holds : Holds lent slot (taken x i)
+    slot-holds = record { inside = inside-taken; reads = record { size = simp (length-take, length-drop) (omega (arith, accepted-has-128 b (g .accepted))); shown = shown-later i slot _ shown-taken } }
+
+  -- the first of them has a timing
+  pub first-timing : (d : DetailedTiming) × (taken x 0 .timings ≡ d ∷ [])
+  first-timing = let f = first-slot-timing _ _ (shown-taken 0 (omega arith)) in (f .0, ap (λ (l : Entries). l .timings) (f .1))
+
+  pub front-reads : ReadsFront b (frontOf x)
+  unfolding judged beforeSlots
+  front-reads =
+      let v = then-first _ _ (then-first _ _ (then-first _ _ (then-first _ _ (sym (end-is-verdict b) ∙ g .accepted)))) in
+      let p = passed (eqb (length b) 128) (isHeader b) (eqb (byteSum b) 0) (eqb (b ! 18) 1) v in
+      let f = ap (λ (s : Shown). s .front) same in
+      record {
+        header = p .0;
+        one = eqb-true (b ! 18) 1 (p .1);
+        product = ap (λ (f : Front). f .product) f;
+        version = ap (λ (f : Front). f .version) f;
+        display = ap (λ (f : Front). f .display) f;
+        basic = ap (λ (f : Front). f .basic) f;
+        established = ap (λ (f : Front). f .established) f;
+      }

@@ -1,0 +1,28 @@
+-- `write_head::number_bytes` meets its contract: the test by what `digit` ensures. Assumes nothing.
+use mathlib.Core.Path.{refl}
+use borrow.Author.Needs.{needs}
+use Rattle.write_head.proofs.number_bytes.Statement.{statement}
+use Rattle.write_head.proofs.number_bytes.Tie as tie
+
+returns : tie.Need-returns
+returns c =
+    let two = c .before .before .before .before .before .before .before in
+    record { fits = rw (two .digit2 .ensures .0, two .before .before .digit .ensures .0); bytes = λ rest. refl }
+
+pub number-bytes-spec : {M : Type 1} → statement M
+number-bytes-spec =
+    tie.close
+    (tie.spec
+    (search needs)
+    (search needs)
+    (search needs)
+    (search needs)
+    (search needs)
+    (search needs)
+    (search needs)
+    (search needs)
+    (search needs)
+    (search needs)
+    (search needs)
+    (search needs)
+    returns)

@@ -1,0 +1,2 @@
+-- The laws that the proofs of `write_next` cite.
+pub mod Laws

@@ -1,0 +1,2 @@
+-- What the contracts of `write_next` cite.
+pub mod Next

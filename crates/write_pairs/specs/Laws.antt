@@ -1,0 +1,63 @@
+-- Laws: packed pairs are read as the list, and what is read has bytes.
+use Prim.Native.Nat.{ℕ, zero, suc, _+_, _*_, _<_, _≤_}
+use mathlib.Core.Path.{_≡_, refl, sym, ap, ap₂, _∙_}
+use mathlib.Core.List.{List, [], _∷_, _++_, append-assoc, append-nil}
+use native.Mathlib.Omega.{arith}
+use lib.ListN.{length}
+use Rattle.fixed.specs.Gather.{gather}
+use Rattle.standard_record.specs.declared.StandardTiming.{StandardTiming}
+use Rattle.standard_parts.specs.Timings.{pairOf}
+use Rattle.standard_parts.specs.declared.Pair.{Pair}
+use Rattle.standard_parts.specs.declared.Pair.the-variants.{Listed, Skipped}
+use Rattle.standard_slots.specs.Said.{ofPair, pairAt, pairsAt}
+use Rattle.write_leaf.specs.Bytes.{Bytes}
+use Rattle.write_pairs.specs.Pairs.{pairsBytes, All, ReadFrom, Back}
+
+-- ---- read back
+
+-- a list that is gathered, by its first turn
+gather-first : {A : Type 0} (f : ℕ → List A) (n : ℕ) → gather f (suc n) ≡ f 0 ++ gather (λ i. f (suc i)) n
+gather-first f zero = sym (append-nil (f 0))
+gather-first f (suc n) = ap (λ xs. xs ++ f (suc n)) (gather-first f n) ∙ append-assoc (f 0) (gather (λ i. f (suc i)) n) (f (suc n))
+
+gather-same : {A : Type 0} (f g : ℕ → List A) → ((i : ℕ) → f i ≡ g i) → (n : ℕ) → gather f n ≡ gather g n
+gather-same f g h zero = refl
+gather-same f g h (suc n) = ap₂ _++_ (gather-same f g h n) (h n)
+
+-- of two bytes more in front
+pairs-first : (a b : ℕ) (s : List ℕ) (n : ℕ) → pairsAt (a ∷ b ∷ s) 0 (suc n) ≡ ofPair (pairOf a b) ++ pairsAt s 0 n
+pairs-first a b s n =
+    gather-first (λ i. pairAt (a ∷ b ∷ s) (0 + 2 * i)) n
+    ∙ ap (λ xs. ofPair (pairOf a b) ++ xs) (gather-same _ _ shifted n)
+  where
+    shifted : (i : ℕ) → pairAt (a ∷ b ∷ s) (0 + 2 * suc i) ≡ pairAt s (0 + 2 * i)
+    shifted i =
+        let e : 0 + 2 * suc i ≡ suc (suc (0 + 2 * i)) = omega arith in
+        let f : suc (suc (0 + 2 * i)) + 1 ≡ suc (suc (0 + 2 * i + 1)) = omega arith in
+        rw (e, f)
+
+skipped : pairOf 1 1 ≡ Skipped
+unfolding pairOf
+skipped = refl
+
+pub pairs-back : (n : ℕ) (ps : List StandardTiming) (s : List ℕ) → length ps ≤ n → All Back ps → pairsAt (pairsBytes n ps ++ s) 0 n ≡ ps
+pairs-back zero [] s h b = refl
+pairs-back zero (p ∷ ps) s h b = absurd (omega arith)
+pairs-back (suc n) [] s h b = pairs-first 1 1 (pairsBytes n [] ++ s) n ∙ rw skipped (pairs-back n [] s (omega arith) b)
+pairs-back (suc n) (p ∷ ps) s h b =
+    pairs-first _ _ (pairsBytes n ps ++ s) n ∙ rw (b .0) (ap (λ xs. p ∷ xs) (pairs-back n ps s (omega arith) (b .1)))
+
+-- ---- what is read has bytes
+
+pub all-append : {A : Type 0} (P : A → Type 0) (xs ys : List A) → All P xs → All P ys → All P (xs ++ ys)
+all-append P [] ys h k = k
+all-append P (x ∷ xs) ys h k = (h .0, all-append P xs ys (h .1) k)
+
+one-read : (a b : ℕ) → a < 256 → b < 256 → (p : Pair) → pairOf a b ≡ p → All ReadFrom (ofPair p)
+one-read a b ha hb (Listed p) e = (record { first = a; second = b; first-is-byte = ha; second-is-byte = hb; read = e }, tt)
+one-read a b ha hb Skipped e = tt
+
+pub all-read : (s : List ℕ) → Bytes s → (k n : ℕ) → All ReadFrom (pairsAt s k n)
+all-read s h k zero = tt
+all-read s h k (suc n) =
+    all-append ReadFrom (pairsAt s k n) (pairAt s (k + 2 * n)) (all-read s h k n) (one-read _ _ (h (k + 2 * n)) (h (k + 2 * n + 1)) _ refl)

@@ -1,0 +1,61 @@
+-- Laws: a standard timing's bytes are those that it was read from.
+use Prim.Native.Nat.{ℕ, zero, suc, _+_, _*_, _<_}
+use mathlib.Core.Path.{_≡_, refl, ap}
+use mathlib.Core.Bool.{Bool, true, false, _&&_, cond}
+use native.Mathlib.Omega.{arith}
+use lib.Dec.{eqb}
+use borrow.Author.Tests.{eqb-true}
+use Rattle.bits.specs.Fields.{digits}
+use Rattle.standard_record.specs.declared.StandardTiming.{StandardTiming}
+use Rattle.standard_parts.specs.Timings.{ratioOf, pairOf}
+use Rattle.standard_parts.specs.declared.Pair.{Pair}
+use Rattle.standard_parts.specs.declared.Pair.the-variants as Pair
+use Rattle.write_leaf.specs.Digits.{four-hold, agrees}
+use Rattle.write_parts.specs.Pair.{ratioCode, pairLow, pairHigh, WritesPair, sameTiming, samePair}
+
+-- ---- the comparison
+
+same-is : (w v : StandardTiming) → sameTiming w v ≡ true → w ≡ v
+same-is w v h =
+    let all =
+    four-hold (eqb (w .width) (v .width)) (eqb (w .ratio .width) (v .ratio .width)) (eqb (w .ratio .height) (v .ratio .height)) (eqb (w .rate) (v .rate)) h in
+    λ i. record {
+      width = eqb-true (w .width) (v .width) (all .0) i;
+      ratio = record { width = eqb-true (w .ratio .width) (v .ratio .width) (all .1) i; height = eqb-true (w .ratio .height) (v .ratio .height) (all .2) i };
+      rate = eqb-true (w .rate) (v .rate) (all .3) i;
+    }
+
+same-self : (v : StandardTiming) → sameTiming v v ≡ true
+same-self v = rw (agrees (v .width), agrees (v .ratio .width), agrees (v .ratio .height), agrees (v .rate))
+
+pair-is : (p : Pair) (v : StandardTiming) → samePair p v ≡ true → p ≡ Pair.Listed v
+pair-is Pair.Skipped v h = cc
+pair-is (Pair.Listed w) v h = ap Pair.Listed (same-is w v h)
+
+-- ---- the bytes
+
+code-back : (c : ℕ) → c < 4 → ratioCode (ratioOf c) ≡ c
+code-back zero h = refl
+code-back (suc zero) h = refl
+code-back (suc (suc zero)) h = refl
+code-back (suc (suc (suc zero))) h = refl
+code-back (suc (suc (suc (suc c)))) h = absurd (omega arith)
+
+listed : (z : Bool) (w v : StandardTiming) → cond z Pair.Skipped (Pair.Listed w) ≡ Pair.Listed v → w ≡ v
+listed true w v h = cc
+listed false w v h = cc
+
+bytes-back : (a b : ℕ) → a < 256 → b < 256 → (v : StandardTiming) → pairOf a b ≡ Pair.Listed v → (pairLow v ≡ a) × (pairHigh v ≡ b)
+unfolding pairOf
+bytes-back a b ha hb v h =
+    let e = listed (eqb a 1 && eqb b 1) (record { width = (a + 31) * 8; ratio = ratioOf (digits b 6 2); rate = digits b 0 6 + 60 }) v h in
+    (rw (← e) (omega arith), rw (← e) (rw (code-back (digits b 6 2) (omega arith)) (omega arith)))
+
+pub writes-pair : (v : StandardTiming) → WritesPair v (samePair (pairOf (pairLow v) (pairHigh v)) v) (pairLow v, pairHigh v)
+writes-pair v = record {
+  made = refl;
+  sound = λ h. pair-is (pairOf (pairLow v) (pairHigh v)) v h;
+  complete = λ s b h.
+      let e = bytes-back (s .0) (s .1) (b .0) (b .1) v h in
+      rw (e .0, e .1, h) (same-self v);
+}

@@ -1,0 +1,2 @@
+-- The laws that the proofs of `write_slots` cite.
+pub mod Runs
