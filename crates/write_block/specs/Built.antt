@@ -131,7 +131,7 @@ module _ (r : StandardRecord) (lent : List ℕ) (fit : Fit r lent) where
   abbrev parts : ℕ → List ℕ
   parts i = slotFrom lent (taken x i)
 
-  slot-is : (i : ℕ) → i < 4 → slotOf (shown lent x) (i + 1) ≡ parts i
+  pub slot-is : (i : ℕ) → i < 4 → slotOf (shown lent x) (i + 1) ≡ parts i
   slot-is i h =
       let l = lists-of in
       let ts = ap (numbered heldTiming (i + 1)) (l .timings) ∙ told heldTiming [] (λ i. taken x i .timings) 4 .turn i h in
@@ -184,7 +184,7 @@ module _ (r : StandardRecord) (lent : List ℕ) (fit : Fit r lent) where
     slots-size,
   )
 
-  block-slot : (i : ℕ) → i < 4 → part b (start i) 18 ≡ parts i
+  pub block-slot : (i : ℕ) → i < 4 → part b (start i) 18 ≡ parts i
   block-slot i h =
       let p : length (frontBytes (frontOf x) ++ pairsBytes 8 (eight x)) ≡ 54 =
       omega (arith, length-append (frontBytes (frontOf x)) (pairsBytes 8 (eight x)), front-size, pairs-length 8 (eight x)) in

@@ -110,7 +110,7 @@ module _ (b : List ℕ) (r : StandardRecord) (lent : List ℕ) (g : Gives b r le
   abbrev x : Seen
   x = seen r
 
-  same : shown b (plain b) ≡ shown lent x
+  pub same : shown b (plain b) ≡ shown lent x
   same = sym (ap (λ e. shown b (seen e)) (accepted b (g .accepted)) ∙ ap (shown b) (holds (plain b) (fits b))) ∙ g .same
 
   few-in : (i : ℕ) → Few (saidIn b i)

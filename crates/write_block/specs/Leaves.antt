@@ -87,13 +87,13 @@ module _ (p : StandardTiming) (ps : List StandardTiming) (few : length (p ∷ ps
   abbrev slot : List ℕ
   slot = pairsSlot (pairsBytes 6 (p ∷ ps))
 
-  slot-size : length slot ≡ 18
+  pub slot-size : length slot ≡ 18
   slot-size = omega (arith, length-append (pairsBytes 6 (p ∷ ps)) (0x0a ∷ []), pairs-length 6 (p ∷ ps))
 
   slot-end : slot ! 17 ≡ 0x0a
   slot-end = getD-at (tagged 0xfa (pairsBytes 6 (p ∷ ps))) 0x0a [] 0 17 (omega (arith, pairs-length 6 (p ∷ ps)))
 
-  slot-shows : All Back (p ∷ ps) → shows slot (said 1 slot 0) ≡ these (entries [] (p ∷ ps) [] [])
+  pub slot-shows : All Back (p ∷ ps) → shows slot (said 1 slot 0) ≡ these (entries [] (p ∷ ps) [] [])
   slot-shows h =
       pairs-shown slot refl refl slot-end
       ∙ ap (λ l. these (entries [] l [] []))

@@ -9,3 +9,6 @@ pub mod Slots
 pub mod Leaves
 pub mod Given
 pub mod Built
+pub mod Canon
+pub mod Promises
+pub mod Dropped

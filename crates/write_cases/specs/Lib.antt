@@ -1,0 +1,2 @@
+-- Worked cases of the writer.
+pub mod Cases
