@@ -13,6 +13,13 @@ static uint64_t refusal_number(const uint8_t *block, size_t length) { return edi
 static uint64_t bytes_taken(const uint8_t *block, size_t length) { return edid_bytes_taken(block, length); }
 static uint64_t sum_is_zero(const uint8_t *block, size_t length) { return edid_sum_is_zero(block, length); }
 
+/* The writer has its output lent: its sides are called through these two. */
+typedef uint8_t writer(const uint8_t *block, size_t length, uint8_t *out, size_t size);
+extern writer written_once, written_twice;
+static uint8_t out[128];
+static uint64_t once(const uint8_t *block, size_t length) { return written_once(block, length, out, sizeof out); }
+static uint64_t twice(const uint8_t *block, size_t length) { return written_twice(block, length, out, sizeof out); }
+
 static const struct {
     const char *name;
     side *call;
@@ -20,6 +27,8 @@ static const struct {
     {"nothing", c_nothing},
     {"every_field", every_field},
     {"every_standard_field", every_standard_field},
+    {"written_once", once},
+    {"written_twice", twice},
     {"refusal_number", refusal_number},
     {"bytes_taken", bytes_taken},
     {"sum_is_zero", sum_is_zero},

@@ -183,11 +183,14 @@ def reading(block):
     ]
 
 
+def frames(stream):
+    """The blocks of a stream of frames."""
+    while len(head := stream.read(2)) == 2:
+        yield stream.read(little(head))
+
+
 def main():
-    rest = sys.stdin.buffer.read()
-    while len(rest) >= 2:
-        length = little(rest[:2])
-        block, rest = rest[2:2 + length], rest[2 + length:]
+    for block in frames(sys.stdin.buffer):
         try:
             lines = reading(block)
         except Refused as refusal:
@@ -195,4 +198,5 @@ def main():
         print(*lines, "--", sep="\n")
 
 
-main()
+if __name__ == "__main__":
+    main()

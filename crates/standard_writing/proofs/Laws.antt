@@ -1,15 +1,15 @@
 -- What the writer's turns come to. Assumes nothing.
-use Prim.Native.Nat.{ℕ, zero, suc, _+_, _*_, _%_, _<_, _≤_, min}
+use Prim.Native.Nat.{ℕ, _+_, _*_, _%_, _<_, _≤_, min}
 use mathlib.Core.Path.{_≡_, refl, sym, ap, ap₂, _∙_, subst}
 use mathlib.Core.Bool.{Bool, true, false, _&&_, true≢false}
 use mathlib.Core.List.{List, [], _∷_, _++_, append-nil, append-assoc}
 use native.Mathlib.Numerals.{add-one}
 use native.Mathlib.Omega.{arith}
-use lib.ListN.{length, take, drop, set, length-set, length-take, length-drop, drop-of-length-le}
+use lib.ListN.{length, getD, take, drop, set, length-set, length-take, length-drop, drop-of-length-le}
 use lib.Dec.{eqb, leb, ltb}
 use borrow.Author.Tests.{ne-eqb, eqb-true, eqb-false, ltb-true, le-leb, lt-leb, leb-true, leb-false}
 use lib.Seq.{drop-drop, paste, length-paste, take-paste, take-all, take-suc-set}
-use Rattle.bits.specs.Bytes.{_!_, part}
+use Rattle.bits.specs.Bytes.{part}
 use Rattle.fixed.specs.Gather.{gather, gather-more}
 use Rattle.sums.specs.Sum.{byteSum}
 use Rattle.sums.specs.Joined.{checksum}
@@ -22,12 +22,13 @@ use Rattle.standard_record.specs.declared.Descriptor.{Descriptor}
 use Rattle.standard_record.specs.declared.StandardRecord.{StandardRecord}
 use Rattle.standard_slots.specs.Said.{Lists, four}
 use Rattle.write_leaf.specs.Bytes.{Bytes}
+use Rattle.write_leaf.specs.Digits.{both-hold}
 use Rattle.write_pairs.specs.Run.{run, run-at-most}
 use Rattle.write_pairs.specs.Pairs.{most, All, ReadFrom, WritesPairs}
 use Rattle.write_pairs.specs.Laws.{all-read}
 use Rattle.write_slots.specs.Writes.{WritesPoints}
 use Rattle.write_block.specs.Taken.{Rest, first, next, without, eight, rest, taken}
-use Rattle.write_block.specs.Slots.{of-timings, of-pairs, of-points, of-descriptors}
+use Rattle.write_block.specs.Slots.{either}
 use Rattle.write_block.specs.Given.{slot-bytes, slot-holds, used-up, front-reads, eight-is, first-timing}
 use Rattle.write_block.specs.Shown.{frontOf, shown}
 use Rattle.write_block.specs.Gives.{Gives, Written, written, no-block}
@@ -36,22 +37,20 @@ use Rattle.write_block.specs.Canonical.{blockOf}
 use Rattle.write_head.specs.Front.{ReadsFront, WritesFront}
 use Rattle.write_block.specs.Holds.{Holds, WritesSlot, slotFrom}
 use Rattle.write_block.specs.Leaves.{pairsSlot, slot-pairs, slot-points}
+use Rattle.fixed.specs.Gather.{when}
+use Rattle.standard_record.specs.declared.HeldPair.{HeldPair}
+use Rattle.standard_record.specs.declared.HeldPoint.{HeldPoint}
+use Rattle.standard_parts.specs.declared.Point.{Point}
+use Rattle.standard_slots.specs.Said.{ofPoint}
+use Rattle.write_next.specs.Next.{own, twoOf}
+use Rattle.write_next.specs.Laws.{own-is, two-ahead, none-ahead, some-ahead}
+use Rattle.standard_writing.specs.declared.Turn.{Turn}
 use Rattle.standard_slots.specs.Answers.{ofPoints}
 use Rattle.standard_slots.specs.declared.Points.{Points}
 use Rattle.standard_reading.specs.Slots.{start}
 use Rattle.standard_writing.specs.Filled.{FitSoFar, SlotsFit, FrontFit, Filled}
-use Rattle.standard_writing.specs.Places.{ahead, Moved, UsedUp}
+use Rattle.standard_writing.specs.Places.{ahead, Small, Moved, Turned, UsedUp}
 use Rattle.standard_writing.specs.declared.Place.{Place}
-
--- the first n of a list, one by one
-abbrev gets : ℕ → (ℕ → ℕ) → List ℕ → List ℕ
-gets zero f s = s
-gets (suc n) f s = f 0 ∷ gets n (λ k. f (suc k)) s
-
-pub gets-take : (n : ℕ) (l s : List ℕ) → n ≤ length l → gets n (λ k. l ! k) s ≡ take n l ++ s
-gets-take zero l s h = refl
-gets-take (suc n) [] s h = absurd (omega arith)
-gets-take (suc n) (x ∷ l) s h = ap (λ t. x ∷ t) (gets-take n l s (omega arith))
 
 -- ---- what a slot takes, by what stands at the front of each list
 
@@ -69,13 +68,9 @@ pub none-left : {A : Type 0} (xs : List A) → length xs ≤ 0 → xs ≡ []
 none-left [] h = refl
 none-left (x ∷ xs) h = absurd (omega arith)
 
--- a turn, by what it takes
-module _ (lent : List ℕ) (at after : Place) (fits : Bool) (bytes : List ℕ) where
-  abbrev pub Turned : Lists → Type 0
-  Turned l = WritesSlot lent l fits bytes × Moved l at after
-
-  pub turned : {l m : Lists} → l ≡ m → WritesSlot lent m fits bytes → Moved m at after → Turned l
-  turned e w m = subst Turned (sym e) (w, m)
+pub turned : (lent : List ℕ) (at after : Place) (fits : Bool) (bytes : List ℕ) {l m : Lists} → l ≡ m → WritesSlot lent m fits bytes → Moved m at after
+    → Turned lent at after fits bytes l
+turned lent at after fits bytes e w m = subst (Turned lent at after fits bytes) (sym e) (w, m)
 
 -- some pairs
 pub some-pairs : (lent : List ℕ) (at after : Place) (ps : List StandardTiming) (fits : Bool) (bytes slot : List ℕ) (many : ℕ) → WritesPairs ps fits bytes many
@@ -84,10 +79,46 @@ pub some-pairs : (lent : List ℕ) (at after : Place) (ps : List StandardTiming)
 some-pairs lent at after [] fits bytes slot many w some few e m ws ds = absurd (omega (arith, w .count))
 some-pairs lent at after (p ∷ ps) fits bytes slot many w some few e m ws ds = (rw e (slot-pairs p ps few lent fits bytes many w), m)
 
+pub pairs-turned : (lent : List ℕ) (at : Place) (t : Turn) (ps : List StandardTiming) (fits : Bool) (bytes : List ℕ) (many : ℕ) → WritesPairs ps fits bytes many
+    → 0 < many → length ps ≤ 6 → t .slot .fits ≡ fits → t .slot .bytes ≡ pairsSlot (take 12 bytes)
+    → t .after ≡ record { timed = at .timed; listed = at .listed + many; pointed = at .pointed; entered = at .entered }
+    → (ws : List WhitePoint) (ds : List Descriptor) → Turned lent at (t .after) (t .slot .fits) (t .slot .bytes) (first [] ps ws ds)
+pairs-turned lent at t ps fits bytes many w some few f b a ws ds =
+    subst (λ z. Turned lent at (t .after) z (t .slot .bytes) (first [] ps ws ds)) (sym f)
+    (some-pairs lent at (t .after) ps fits bytes (t .slot .bytes) many w some few b
+    (rw a (record { timed = omega arith; listed = omega (arith, w .count); pointed = omega arith; entered = omega arith })) ws ds)
+
+-- whether there are pairs, by the first of them
+module _ (items : List HeldPair) (len k n : ℕ) (whole : length items ≡ 26) (z : HeldPair) where
+  first-pair : (t : Bool) → own k len 26 (getD items (k % 26) z .slot) n ≡ t → run heldPair n 1 (drop k (take len items)) ≡ when t (getD items (k % 26) z .pair)
+  first-pair t e = sym (own-is heldPair n items len 26 k whole z) ∙ ap (λ b. when b (getD items (k % 26) z .pair)) e
+
+  pub some-pair : own k len 26 (getD items (k % 26) z .slot) n ≡ true → 0 < length (run heldPair n 6 (drop k (take len items)))
+  some-pair e = some-ahead heldPair n 5 (drop k (take len items)) (omega (arith, ap length (first-pair true e)))
+
+  pub no-pair : own k len 26 (getD items (k % 26) z .slot) n ≡ false → run heldPair n 6 (drop k (take len items)) ≡ []
+  no-pair e = none-ahead heldPair n 6 (drop k (take len items)) (first-pair false e)
+
+-- two points, by each of them
+pub points-are : (items : List HeldPoint) (len k n : ℕ) (whole : length items ≡ 6) (z : HeldPoint) (ps : List WhitePoint) (p q : Point)
+    → ps ≡ twoOf (ofPoint p) (ofPoint q)
+    → ofPoint p ≡ when (own k len 6 (getD items (k % 6) z .slot) n) (getD items (k % 6) z .point)
+    → ofPoint q ≡ when (own (k + 1) len 6 (getD items ((k + 1) % 6) z .slot) n) (getD items ((k + 1) % 6) z .point)
+    → run heldPoint n 2 (drop k (take len items)) ≡ ps
+points-are items len k n whole z ps p q e ep eq =
+    let a = ep ∙ own-is heldPoint n items len 6 k whole z in
+    let b = eq ∙ own-is heldPoint n items len 6 (k + 1) whole z in
+    sym (e ∙ (λ i. twoOf (a i) (b i)) ∙ two-ahead heldPoint n items len k)
+
 pub some-points : (ps : Points) → 0 < length (ofPoints ps) → (ds : List Descriptor) → first [] [] (ofPoints ps) ds ≡ four [] [] (ofPoints ps) []
 some-points Points.None h ds = absurd (omega arith)
 some-points (Points.One p) h ds = refl
 some-points (Points.Two p q) h ds = refl
+
+pub at-most-two : (ps : Points) → length (ofPoints ps) ≤ 2
+at-most-two Points.None = omega arith
+at-most-two (Points.One p) = omega arith
+at-most-two (Points.Two p q) = omega arith
 
 pub no-entry : (lent : List ℕ) (fits : Bool) (t : List ℕ) (ps : Points) → ofPoints ps ≡ [] → WritesPoints ps fits t → WritesSlot lent (four [] [] [] []) fits t
 no-entry lent fits t ps e w = subst (λ l. WritesSlot lent (four [] [] l []) fits t) e (slot-points lent fits t ps w)
@@ -108,10 +139,6 @@ module _ {A : Type 0} (k len size : ℕ) (items : List A) (whole : length items 
 
   none-ended : drop k (take len items) ≡ [] → leb (min len size) k ≡ true
   none-ended e = le-leb (min len size) k (omega (arith, length-drop k (take len items), ap length e, length-take len items))
-
-both-hold : (a b : Bool) → (a && b) ≡ true → (a ≡ true) × (b ≡ true)
-both-hold true b h = (refl, h)
-both-hold false b h = (cc, cc)
 
 pub all-ended : (r : StandardRecord) (at : Place) → length (r .timings .detailed .items) ≡ 4 → length (r .timings .standard .items) ≡ 26
     → length (r .color .points .items) ≡ 6 → length (r .descriptors .items) ≡ 3
@@ -142,13 +169,7 @@ all-ended r at t p w d = record {
 -- the first slot takes the first timing, if it has its number
 pub timings-next : (n : ℕ) (r : Rest) → next n r .timings ≡ run heldTiming n 1 (r .timings)
 unfolding next
-timings-next n r = go (run heldTiming n 1 (r .timings)) (run heldPair n 6 (r .pairs)) (run heldPoint n 2 (r .points)) (run held n 1 (r .descriptors))
-  where
-    go : (ts : List DetailedTiming) (ps : List StandardTiming) (ws : List WhitePoint) (ds : List Descriptor) → first ts ps ws ds .timings ≡ ts
-    go [] [] [] ds = refl
-    go [] [] (w ∷ ws) ds = refl
-    go [] (p ∷ ps) ws ds = refl
-    go (t ∷ ts) ps ws ds = refl
+timings-next n r = refl
 
 -- ---- the loop over the slots
 
@@ -165,12 +186,11 @@ next-few n r =
     let ts = run heldTiming n 1 (r .timings) in
     let ps = run heldPair n 6 (r .pairs) in
     let ws = run heldPoint n 2 (r .points) in
-    let ds = run held n 1 (r .descriptors) in
     record {
-      timings = of-timings (λ l. length l ≤ 1) (omega arith) ts ps ws ds (run-at-most heldTiming n 1 (r .timings));
-      pairs = of-pairs (λ l. length l ≤ 6) (omega arith) ts ps ws ds (run-at-most heldPair n 6 (r .pairs));
-      points = of-points (λ l. length l ≤ 2) (omega arith) ts ps ws ds (run-at-most heldPoint n 2 (r .points));
-      descriptors = of-descriptors (λ l. length l ≤ 1) (omega arith) ts ps ws ds (run-at-most held n 1 (r .descriptors));
+      timings = run-at-most heldTiming n 1 (r .timings);
+      pairs = either (λ l. length l ≤ 6) ts (omega arith) (run-at-most heldPair n 6 (r .pairs));
+      points = either (λ l. length l ≤ 2) ts (omega arith) (either (λ l. length l ≤ 2) ps (omega arith) (run-at-most heldPoint n 2 (r .points)));
+      descriptors = either (λ l. length l ≤ 1) ts (omega arith) (either (λ l. length l ≤ 1) ps (omega arith) (either (λ l. length l ≤ 1) ws (omega arith) (run-at-most held n 1 (r .descriptors))));
     }
 
 -- where the lists stand after i slots
@@ -180,6 +200,9 @@ pub record After (x : Seen) (i : ℕ) (at : Place) : Type 0 where
   pub listed : at .listed ≤ 8 + 6 * i
   pub pointed : at .pointed ≤ 2 * i
   pub entered : at .entered ≤ i
+
+pub small : {x : Seen} {i : ℕ} {at : Place} → i ≤ 4 → After x i at → Small at
+small h a = record { timed = omega (arith, a .timed); listed = omega (arith, a .listed); pointed = omega (arith, a .pointed); entered = omega (arith, a .entered) }
 
 pub none-yet : (x : Seen) (at : Place) → at .timed ≡ 0 → at .listed ≡ length (eight x) → at .pointed ≡ 0 → at .entered ≡ 0 → After x 0 at
 unfolding rest

@@ -2,12 +2,14 @@
 use Prim.Native.Nat.{ℕ, _+_, _≤_}
 use mathlib.Core.Path.{_≡_}
 use mathlib.Core.Bool.{Bool, true}
+use mathlib.Core.List.{List}
 use lib.ListN.{length, drop}
 use Rattle.standard_record.specs.Seen.{Seen}
 use Rattle.standard_slots.specs.Said.{Lists}
 use Rattle.standard_slots.specs.Answers.{ofPoints}
 use Rattle.standard_slots.specs.declared.Points.{Points}
 use Rattle.write_block.specs.Taken.{Rest, Empty}
+use Rattle.write_block.specs.Holds.{WritesSlot}
 use Rattle.standard_writing.specs.declared.Place.{Place}
 
 -- what is left at a place
@@ -19,7 +21,7 @@ ahead x at = record {
   descriptors = drop (at .entered) (x .descriptors);
 }
 
--- it is no matter how small
+-- small enough that no count overflows
 pub record Small (at : Place) : Type 0 where
   pub timed : at .timed ≤ 100
   pub listed : at .listed ≤ 100
@@ -32,6 +34,10 @@ pub record Moved (l : Lists) (at after : Place) : Type 0 where
   pub listed : after .listed ≡ at .listed + length (l .pairs)
   pub pointed : after .pointed ≡ at .pointed + length (l .points)
   pub entered : after .entered ≡ at .entered + length (l .descriptors)
+
+-- a slot that takes these entries is written, and the lists stand behind them
+abbrev pub Turned : List ℕ → Place → Place → Bool → List ℕ → Lists → Type 0
+Turned lent at after fits bytes l = WritesSlot lent l fits bytes × Moved l at after
 
 abbrev pub many : Points → ℕ
 many ps = length (ofPoints ps)

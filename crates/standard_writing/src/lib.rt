@@ -1,29 +1,33 @@
 // The block of a standard record: the front, the eight pairs, then slot after slot what the next entries of the four lists make.
 // A list is used up in order: a record whose entries stand otherwise has some left at the end, and is refused.
+use standard_record::DetailedTiming;
 use standard_record::StandardRecord;
+use standard_record::StandardTimings;
 use standard_slots::Points;
 use write_leaf::SlotBytes;
 use write_next::NextDescriptor;
 use write_next::NextTiming;
 use write_pairs::PairsBytes;
 ghost use mathlib.Core.Path.{_≡_};
-ghost use mathlib.Core.Bool.{_&&_};
-ghost use mathlib.Core.List.{_++_};
-ghost use Prim.Native.Nat.{_+_, _≤_, min};
+ghost use mathlib.Core.List.{List, [], _∷_, _++_};
+ghost use Prim.Native.Nat.{ℕ, _+_, _≤_, min};
 ghost use lib.Dec.{leb, ltb};
 ghost use lib.ListN.{length, take};
 ghost use lib.Seq.{paste};
 ghost use Rattle.standard_record.specs.Seen.{seen};
-ghost use Rattle.write_block.specs.Taken.{next, taken, eight};
-ghost use Rattle.write_block.specs.Holds.{WritesSlot, slotFrom};
+ghost use Rattle.write_block.specs.Taken.{first, taken, eight};
+ghost use Rattle.write_block.specs.Holds.{slotFrom};
 ghost use Rattle.write_block.specs.Leaves.{pairsSlot};
 ghost use Rattle.fixed.specs.Gather.{gather};
+ghost use Rattle.standard_slots.specs.Said.{four};
+ghost use Rattle.standard_slots.specs.Answers.{ofPoints};
+ghost use Rattle.write_next.specs.Next.{ofDescriptor};
 ghost use Rattle.write_pairs.specs.Pairs.{pairsBytes};
 ghost use Rattle.write_head.specs.Front.{frontBytes};
 ghost use Rattle.write_block.specs.Shown.{frontOf};
 ghost use Rattle.write_block.specs.Gives.{Written};
 ghost use Rattle.standard_writing.specs.Filled.{SlotsFit, FrontFit, Filled};
-ghost use Rattle.standard_writing.specs.Places.{ahead, Small, Moved, UsedUp, many};
+ghost use Rattle.standard_writing.specs.Places.{ahead, Small, Turned, UsedUp, many};
 
 // How many entries of each list are used up.
 pub struct Place {
@@ -45,43 +49,7 @@ struct Begun {
     listed: usize,
 }
 
-fn both(a: bool, b: bool) -> bool
-    ensures { λ r. ⌜ r ≡ (a && b) ⌝ }
-{
-    if a { b } else { false }
-}
-
 // ---- a slot
-
-fn pairs_slot(six: PairsBytes) -> SlotBytes
-    ensures { λ r. ⌜ (r .fits ≡ six .fits) × (r .bytes ≡ pairsSlot (take 12 (six .bytes))) ⌝ }
-{
-    let b = six.bytes;
-    let bytes = [
-        0,
-        0,
-        0,
-        0xfa,
-        0,
-        b[0],
-        b[1],
-        b[2],
-        b[3],
-        b[4],
-        b[5],
-        b[6],
-        b[7],
-        b[8],
-        b[9],
-        b[10],
-        b[11],
-        0x0a,
-    ];
-    SlotBytes {
-        fits: six.fits,
-        bytes,
-    }
-}
 
 fn many(ps: Points) -> usize
     ensures { λ r. ⌜ r ≡ many ps ⌝ }
@@ -107,49 +75,68 @@ fn turn_of(slot: SlotBytes, timed: usize, listed: usize, pointed: usize, entered
     }
 }
 
-// The slot numbered n, from the next entries that have its number.
-fn next_slot(r: StandardRecord, lent: &[u8], n: u16, at: Place) -> Turn
-    requires { ⌜ (1 ≤ n) × Small at ⌝ }
-    ensures { λ t. ⌜ WritesSlot (now (lent .entry)) (next n (ahead (seen r) at)) (t .slot .fits) (t .slot .bytes) × Moved (next n (ahead (seen r) at)) at (t .after) ⌝ }
+fn timing_turn(d: DetailedTiming, at: Place) -> Turn
+    requires { ⌜ Small at ⌝ }
+    ensures { λ t. ⌜ ((lent : List ℕ) → Turned lent at (t .after) (t .slot .fits) (t .slot .bytes) (four (d ∷ []) [] [] [])) ⌝ }
+{
+    turn_of(
+        write_timing::timing_bytes(d),
+        at.timed + 1,
+        at.listed,
+        at.pointed,
+        at.entered,
+    )
+}
+
+fn pairs_turn(six: PairsBytes, at: Place) -> Turn
+    requires { ⌜ Small at × (six .many ≤ 8) ⌝ }
+    ensures { λ t. ⌜ (t .slot .fits ≡ six .fits) × (t .slot .bytes ≡ pairsSlot (take 12 (six .bytes))) × (t .after ≡ record { timed = at .timed; listed = at .listed + six .many; pointed = at .pointed; entered = at .entered }) ⌝ }
+{
+    let taken = six.many;
+    turn_of(
+        write_slots::six_bytes(six),
+        at.timed,
+        at.listed + taken,
+        at.pointed,
+        at.entered,
+    )
+}
+
+// White points, a descriptor or nothing.
+fn other_turn(ps: Points, d: NextDescriptor, lent: &[u8], at: Place) -> Turn
+    requires { ⌜ Small at ⌝ }
+    ensures { λ t. ⌜ Turned (now (lent .entry)) at (t .after) (t .slot .fits) (t .slot .bytes) (first [] [] (ofPoints ps) (ofDescriptor d)) ⌝ }
 {
     let timed = at.timed;
     let listed = at.listed;
     let pointed = at.pointed;
     let entered = at.entered;
-    let detailed = r.timings.detailed;
-    if let NextTiming::Is(d) = write_next::next_timing(detailed, timed, n) {
+    let two = many(ps);
+    if two > 0 {
         return turn_of(
-            write_timing::timing_bytes(d),
-            timed + 1,
+            write_slots::points_bytes(ps),
+            timed,
             listed,
-            pointed,
+            pointed + two,
             entered,
         );
     }
-    let standard = r.timings.standard;
-    let six = write_pairs::pairs_bytes(standard, listed, n);
-    let taken = six.many;
-    if taken > 0 {
-        return turn_of(pairs_slot(six), timed, listed + taken, pointed, entered);
-    }
-    let points = r.color.points;
-    let ps = write_next::next_points(points, pointed, n);
-    let two = many(ps);
-    let shown = write_slots::points_bytes(ps);
-    if two > 0 {
-        return turn_of(shown, timed, listed, pointed + two, entered);
-    }
-    let descriptors = r.descriptors;
-    if let NextDescriptor::Is(d) = write_next::next_descriptor(descriptors, entered, n) {
-        return turn_of(
-            write_slots::descriptor_bytes(d, lent),
+    match d {
+        NextDescriptor::Is(x) => turn_of(
+            write_slots::descriptor_bytes(x, lent),
             timed,
             listed,
             pointed,
             entered + 1,
-        );
+        ),
+        NextDescriptor::None => turn_of(
+            write_slots::points_bytes(Points::None),
+            timed,
+            listed,
+            pointed,
+            entered,
+        ),
     }
-    turn_of(shown, timed, listed, pointed, entered)
 }
 
 // ---- the block
@@ -185,12 +172,12 @@ fn ended(k: usize, len: usize, size: usize) -> bool
 fn used_up(r: StandardRecord, at: Place) -> bool
     ensures { λ t. ⌜ UsedUp (ahead (seen r) at) t ⌝ }
 {
-    both(
-        both(
+    write_leaf::both(
+        write_leaf::both(
             ended(at.timed, r.timings.detailed.len, 4),
             ended(at.listed, r.timings.standard.len, 26),
         ),
-        both(
+        write_leaf::both(
             ended(at.pointed, r.color.points.len, 6),
             ended(at.entered, r.descriptors.len, 3),
         ),
@@ -201,18 +188,23 @@ fn used_up(r: StandardRecord, at: Place) -> bool
 fn timing_first(r: StandardRecord) -> bool
     ensures { λ t. ⌜ t ≡ ltb 0 (length (taken (seen r) 0 .timings)) ⌝ }
 {
-    let detailed = r.timings.detailed;
-    match write_next::next_timing(detailed, 0, 1) {
+    let items = r.timings.detailed.items;
+    match write_next::next_timing(items[0], 0, r.timings.detailed.len, 1) {
         NextTiming::None => false,
         NextTiming::Is(_) => true,
     }
 }
 
-// The four slots, behind the pairs that are used up; whether every entry fits and none is left.
+// The four slots, behind the pairs that are used up; whether every entry fits and none is left. The lists are local arrays: no call takes one, but
+// where a slot holds pairs.
 fn fill_slots(block: &mut [u8], r: StandardRecord, lent: &[u8], listed: usize) -> bool
     requires { ⌜ (length (now block) ≡ 128) × (listed ≡ length (eight (seen r))) ⌝ }
     ensures { λ t. ⌜ SlotsFit r (now (lent .entry)) t × (length (now (block .exit)) ≡ 128) × (take 126 (now (block .exit)) ≡ take 54 (now (block .entry)) ++ gather (λ i. slotFrom (now (lent .entry)) (taken (seen r) i)) 4) ⌝ }
 {
+    let timings = r.timings.detailed.items;
+    let pairs = r.timings.standard.items;
+    let points = r.color.points.items;
+    let entries = r.descriptors.items;
     let mut at = Place {
         timed: 0,
         listed,
@@ -222,16 +214,48 @@ fn fill_slots(block: &mut [u8], r: StandardRecord, lent: &[u8], listed: usize) -
     let mut fits = true;
     let mut i: u16 = 0;
     while i < 4 {
-        let t = next_slot(r, lent, i + 1, at);
+        let n = i + 1;
+        let timed = at.timed;
+        let listed = at.listed;
+        let pointed = at.pointed;
+        let entered = at.entered;
+        let t = match write_next::next_timing(
+            timings[timed % 4],
+            timed,
+            r.timings.detailed.len,
+            n,
+        ) {
+            NextTiming::Is(d) => timing_turn(d, at),
+            NextTiming::None => {
+                if write_next::pair_ahead(pairs[listed % 26], listed, r.timings.standard.len, n) {
+                    let list = StandardTimings {
+                        items: pairs,
+                        len: r.timings.standard.len,
+                    };
+                    pairs_turn(write_pairs::pairs_bytes(list, listed, n), at)
+                } else {
+                    let most = r.color.points.len;
+                    let p = write_next::next_point(points[pointed % 6], pointed, most, n);
+                    let q = write_next::next_point(points[(pointed + 1) % 6], pointed + 1, most, n);
+                    let d = write_next::next_descriptor(
+                        entries[entered % 3],
+                        entered,
+                        r.descriptors.len,
+                        n,
+                    );
+                    other_turn(write_next::two_points(p, q), d, lent, at)
+                }
+            }
+        };
         let slot = t.slot;
         let bytes = slot.bytes;
         lay_slot(block, 54 + 18 * i as usize, &bytes);
-        fits = both(fits, slot.fits);
+        fits = write_leaf::both(fits, slot.fits);
         let after = t.after;
         at = after;
         i += 1;
     }
-    both(fits, used_up(r, at))
+    write_leaf::both(fits, used_up(r, at))
 }
 
 // The front and the eight pairs; whether they fit, and how many pairs are used up.
@@ -252,7 +276,7 @@ fn fill_front(block: &mut [u8], r: StandardRecord) -> Begun
     let pairs = eight.bytes;
     lay(block, 38, &pairs);
     Begun {
-        fits: both(front.fits, eight.fits),
+        fits: write_leaf::both(front.fits, eight.fits),
         listed: eight.many,
     }
 }
@@ -266,7 +290,7 @@ fn fill(block: &mut [u8], r: StandardRecord, lent: &[u8]) -> bool
     let slots = fill_slots(block, r, lent, begun.listed);
     block[126] = r.extensions;
     block[127] = std::num::wrapping_sub_u8(0, sums::byte_sum(&block[0..127]));
-    both(begun.fits, both(timing_first(r), slots))
+    write_leaf::both(begun.fits, write_leaf::both(timing_first(r), slots))
 }
 
 // The block of r, whose spans point into the bytes lent: 0, or the number of a refusal, which leaves the output as it was.

@@ -1,71 +1,46 @@
 -- Where all parts of a record fit, its canonical block gives it.
-use Prim.Native.Nat.{ℕ, zero, suc, _+_, _*_, _<_, _≤_}
+use Prim.Native.Nat.{ℕ, zero, suc, _+_, _<_}
 use mathlib.Core.Path.{_≡_, refl, sym, ap, ap₂, _∙_, subst}
-use mathlib.Core.Bool.{Bool, true, false, cond}
 use mathlib.Core.List.{List, [], _∷_, _++_, map, append-nil, append-assoc}
-use native.Mathlib.Nat.{mul-comm}
 use native.Mathlib.Omega.{arith}
-use lib.Dec.{eqb}
-use lib.ListN.{length, take, drop, length-append}
-use lib.Seq.{drop-append-add, drop-at, take-at, getD-at, getD-append-add}
-use borrow.Author.Tests.{eq-eqb, eqb-true, eqb-false}
+use lib.ListN.{length, length-append}
+use lib.Seq.{getD-at}
+use borrow.Author.Tests.{eq-eqb}
 use Rattle.bits.specs.Bytes.{_!_, part}
 use Rattle.fixed.specs.Gather.{gather}
-use Rattle.fixed.specs.Numbered.{Wrapper, turns, numbered, told}
+use Rattle.fixed.specs.Numbered.{turns, numbered, told}
 use Rattle.sums.specs.Sum.{byteSum}
-use Rattle.sums.specs.Joined.{checksum, checksum-makes-zero}
+use Rattle.sums.specs.Joined.{checksum-makes-zero}
 use Rattle.standard_record.specs.Seen.{Seen, seen, shows as holds}
 use Rattle.standard_record.specs.Held.{heldPair, heldPoint, heldTiming, held}
 use Rattle.standard_record.specs.declared.StandardRecord.{StandardRecord}
-use Rattle.standard_record.specs.declared.StandardTiming.{StandardTiming}
 use Rattle.standard_record.specs.declared.DetailedTiming.{DetailedTiming}
 use Rattle.standard_record.specs.declared.Verdict.the-variants.{Accepted}
-use Rattle.standard_parts.specs.Timings.{flagsOf}
 use Rattle.standard_head.specs.Head.{productIn, colorsIn}
-use Rattle.standard_verdict.specs.Verdict.{isHeader, beforeSlots}
-use Rattle.standard_slots.specs.Said.{Said, refusal, nothing, timing, pairs, points, described, lists, pairAt, pairsAt, said}
+use Rattle.standard_verdict.specs.Verdict.{beforeSlots}
+use Rattle.standard_slots.specs.Said.{Said, refusal, nothing, timing, pairs, points, described, lists, pairsAt, said}
 use Rattle.standard_reading.specs.Slots.{start, saidIn, judge, judged}
-use Rattle.standard_reading.specs.Block.{timingsOf, pairsOf, pointsOf, descriptorsOf, plain, standardOf}
+use Rattle.standard_reading.specs.Block.{timingsOf, pairsOf, pointsOf, descriptorsOf, plain}
 use Rattle.standard_reading.specs.Judged.{end-is-verdict}
 use Rattle.standard_reading.specs.Room.{fits, accepted}
 use Rattle.write_leaf.specs.Bytes.{Bytes}
 use Rattle.write_pairs.specs.Pairs.{pairsBytes, All, Back}
-use Rattle.write_pairs.specs.Run.{run, run-at-most}
+use Rattle.write_pairs.specs.Run.{run-at-most}
 use Rattle.write_pairs.specs.Laws.{pairs-back}
 use Rattle.write_head.specs.Front.{Front, frontBytes, ReadsFront}
 use Rattle.write_slots.specs.Words.{SpanInside, words, Entries, entries, these, shows}
 use Rattle.write_slots.specs.Slot.{slotBytes}
 use Rattle.write_slots.specs.Laws.{shown-in-block, shown-timing}
-use Rattle.write_block.specs.Shown.{Shown, shown, worded, heldWords, frontOf}
-use Rattle.write_block.specs.Canonical.{slotOf, body, blockOf}
-use Rattle.write_block.specs.Gives.{Gives, SpansInside}
+use Rattle.write_block.specs.Shown.{shown, worded, heldWords, frontOf}
+use Rattle.write_block.specs.Canonical.{eightOf, slotOf, body, blockOf}
+use Rattle.write_block.specs.Gives.{Gives}
 use Rattle.write_block.specs.Taken.{Empty, eight, rest, taken}
 use Rattle.write_block.specs.Holds.{entriesOf, Holds, slotFrom}
 use Rattle.write_block.specs.Turns.{gather-same, turns-same, turns-map, all-turns}
 use Rattle.write_block.specs.Slots.{all-turns as lists-are}
 use Rattle.write_block.specs.Leaves.{pairs-length, pairs-behind}
+use Rattle.write_block.specs.Every.{gather-length, block-size, canonical-slot}
 use Rattle.write_block.specs.Given.{not-refused, said-timing, said-later}
-
--- ---- lists of parts
-
--- parts of k bytes each, one after the other
-gather-length : (f : ℕ → List ℕ) (k n : ℕ) → ((i : ℕ) → i < n → length (f i) ≡ k) → length (gather f n) ≡ n * k
-gather-length f k zero h = omega arith
-gather-length f k (suc n) h = omega (arith, length-append (gather f n) (f n), gather-length f k n (λ i l. h i (omega arith)), h n (omega arith))
-
-part-of-gather : (f : ℕ → List ℕ) (k n i : ℕ) → ((i : ℕ) → i < n → length (f i) ≡ k) → i < n → (s : List ℕ) → part (gather f n ++ s) (k * i) k ≡ f i
-part-of-gather f k zero i h l s = absurd (omega arith)
-part-of-gather f k (suc n) i h l s =
-    ap (λ b. part b (k * i) k) (append-assoc (gather f n) (f n) s) ∙ go (eqb i n) refl (λ m. part-of-gather f k n i (λ j z. h j (omega arith)) m (f n ++ s))
-  where
-    go : (z : Bool) → eqb i n ≡ z → (i < n → part (gather f n ++ (f n ++ s)) (k * i) k ≡ f i) → part (gather f n ++ (f n ++ s)) (k * i) k ≡ f i
-    go true p before =
-        rw (
-          eqb-true i n p,
-          drop-at (gather f n) (f n ++ s) (k * n) (gather-length f k n (λ j z. h j (omega arith)) ∙ mul-comm n k),
-          take-at (f n) s k (h n (omega arith)),
-        )
-    go false p before = before (omega (arith, eqb-false i n p))
 
 -- what shows entries is not refused
 is-accepted : (s : List ℕ) (x : Said) (at : ℕ) (l : Entries) → shows s x ≡ these l → judge x at ≡ Accepted
@@ -131,7 +106,7 @@ module _ (r : StandardRecord) (lent : List ℕ) (fit : Fit r lent) where
   abbrev parts : ℕ → List ℕ
   parts i = slotFrom lent (taken x i)
 
-  pub slot-is : (i : ℕ) → i < 4 → slotOf (shown lent x) (i + 1) ≡ parts i
+  slot-is : (i : ℕ) → i < 4 → slotOf (shown lent x) (i + 1) ≡ parts i
   slot-is i h =
       let l = lists-of in
       let ts = ap (numbered heldTiming (i + 1)) (l .timings) ∙ told heldTiming [] (λ i. taken x i .timings) 4 .turn i h in
@@ -140,7 +115,7 @@ module _ (r : StandardRecord) (lent : List ℕ) (fit : Fit r lent) where
       let ds = ap (numbered worded (i + 1)) words-of ∙ told worded [] (λ i. map (words lent) (taken x i .descriptors)) 4 .turn i h in
       λ j. slotBytes (ts j) (ps j) (ws j) (ds j)
 
-  eight-is : numbered heldPair 0 (x .standard) ≡ eight x
+  eight-is : eightOf (shown lent x) ≡ eight x
   eight-is = ap (numbered heldPair 0) (lists-of .pairs) ∙ told heldPair (eight x) (λ i. taken x i .pairs) 4 .before
 
   pub body-is : body (shown lent x) ≡ frontBytes (frontOf x) ++ (pairsBytes 8 (eight x) ++ (gather parts 4 ++ x .extensions ∷ []))
@@ -152,16 +127,9 @@ module _ (r : StandardRecord) (lent : List ℕ) (fit : Fit r lent) where
   abbrev b : List ℕ
   b = blockOf (shown lent x)
 
-  -- behind the front, and behind the eight pairs
-  abbrev last : List ℕ
-  last = x .extensions ∷ checksum (body (shown lent x)) ∷ []
-
-  block-is : b ≡ frontBytes (frontOf x) ++ (pairsBytes 8 (eight x) ++ (gather parts 4 ++ last))
-  block-is =
-      ap (λ s. s ++ checksum (body (shown lent x)) ∷ []) body-is
-      ∙ append-assoc (frontBytes (frontOf x)) (pairsBytes 8 (eight x) ++ (gather parts 4 ++ x .extensions ∷ [])) _
-      ∙ ap (λ s. frontBytes (frontOf x) ++ s) (append-assoc (pairsBytes 8 (eight x)) (gather parts 4 ++ x .extensions ∷ []) _
-      ∙ ap (λ s. pairsBytes 8 (eight x) ++ s) (append-assoc (gather parts 4) (x .extensions ∷ []) _))
+  -- the body, with anything behind it
+  with-rest : (t : List ℕ) → body (shown lent x) ++ t ≡ frontBytes (frontOf x) ++ (pairsBytes 8 (eight x) ++ (gather parts 4 ++ (x .extensions ∷ t)))
+  with-rest t = ap (λ s. s ++ t) body-is ∙ simp append-assoc
 
   part-size : (i : ℕ) → i < 4 → length (parts i) ≡ 18
   part-size i h = fit .slots i h .reads .size
@@ -174,24 +142,10 @@ module _ (r : StandardRecord) (lent : List ℕ) (fit : Fit r lent) where
   slots-size = gather-length parts 18 4 part-size
 
   pub whole : length b ≡ 128
-  whole = ap length block-is ∙ omega (
-    arith,
-    length-append (frontBytes (frontOf x)) (pairsBytes 8 (eight x) ++ (gather parts 4 ++ last)),
-    length-append (pairsBytes 8 (eight x)) (gather parts 4 ++ last),
-    length-append (gather parts 4) last,
-    front-size,
-    pairs-length 8 (eight x),
-    slots-size,
-  )
+  whole = block-size (shown lent x)
 
-  pub block-slot : (i : ℕ) → i < 4 → part b (start i) 18 ≡ parts i
-  block-slot i h =
-      let p : length (frontBytes (frontOf x) ++ pairsBytes 8 (eight x)) ≡ 54 =
-      omega (arith, length-append (frontBytes (frontOf x)) (pairsBytes 8 (eight x)), front-size, pairs-length 8 (eight x)) in
-      ap (λ s. part s (start i) 18) (block-is ∙ sym (append-assoc (frontBytes (frontOf x)) (pairsBytes 8 (eight x)) (gather parts 4 ++ last)))
-      ∙ ap (take 18) (ap (λ n. drop (n + 18 * i) ((frontBytes (frontOf x) ++ pairsBytes 8 (eight x)) ++ (gather parts 4 ++ last))) (sym p)
-      ∙ drop-append-add (frontBytes (frontOf x) ++ pairsBytes 8 (eight x)) (gather parts 4 ++ last) (18 * i))
-      ∙ part-of-gather parts 18 4 i part-size h last
+  block-slot : (i : ℕ) → i < 4 → part b (start i) 18 ≡ parts i
+  block-slot i h = canonical-slot (shown lent x) i h ∙ slot-is i h
 
   -- ---- what is read of it
 
@@ -215,7 +169,7 @@ module _ (r : StandardRecord) (lent : List ℕ) (fit : Fit r lent) where
   said-is i h = these-one (sym (not-refused b (saidIn b i) (start i) (accepted-slot i h)) ∙ in-block i h)
 
   front : ReadsFront b (frontOf x)
-  front = subst (λ s. ReadsFront s (frontOf x)) (sym block-is) (front-reads (frontOf x) (frontOf x) _ (fit .front))
+  front = subst (λ s. ReadsFront s (frontOf x)) (sym (with-rest _)) (front-reads (frontOf x) (frontOf x) _ (fit .front))
 
   verdict : judged b 4 ≡ Accepted
   unfolding judged beforeSlots
@@ -231,15 +185,19 @@ module _ (r : StandardRecord) (lent : List ℕ) (fit : Fit r lent) where
         accepted-slot 3 (omega arith),
       )
 
-  pairs-are : pairsAt b 38 8 ≡ eight x
-  pairs-are =
-      ap (λ s. pairsAt s 38 8) block-is
-      ∙ ap (λ n. pairsAt (frontBytes (frontOf x) ++ (pairsBytes 8 (eight x) ++ (gather parts 4 ++ last))) n 8) (sym front-size)
-      ∙ pairs-behind (frontBytes (frontOf x)) (pairsBytes 8 (eight x) ++ (gather parts 4 ++ last)) 8
-      ∙ pairs-back 8 (eight x) (gather parts 4 ++ last) (run-at-most heldPair 0 8 (x .standard)) (fit .pairs)
+  pairs-behind-front : (t : List ℕ) → pairsAt (body (shown lent x) ++ t) 38 8 ≡ eight x
+  pairs-behind-front t =
+      let rest : List ℕ = gather parts 4 ++ (x .extensions ∷ t) in
+      ap (λ s. pairsAt s 38 8) (with-rest t)
+      ∙ ap (λ n. pairsAt (frontBytes (frontOf x) ++ (pairsBytes 8 (eight x) ++ rest)) n 8) (sym front-size)
+      ∙ pairs-behind (frontBytes (frontOf x)) (pairsBytes 8 (eight x) ++ rest) 8
+      ∙ pairs-back 8 (eight x) rest (run-at-most heldPair 0 8 (x .standard)) (fit .pairs)
 
-  extensions-are : b ! 126 ≡ x .extensions
-  extensions-are =
+  pairs-are : pairsAt b 38 8 ≡ eight x
+  pairs-are = pairs-behind-front _
+
+  last-but-one : (t : List ℕ) → (body (shown lent x) ++ t) ! 126 ≡ x .extensions
+  last-but-one t =
       let p : length ((frontBytes (frontOf x) ++ pairsBytes 8 (eight x)) ++ gather parts 4) ≡ 126 =
       omega (
         arith,
@@ -249,9 +207,12 @@ module _ (r : StandardRecord) (lent : List ℕ) (fit : Fit r lent) where
         pairs-length 8 (eight x),
         slots-size,
       ) in
-      ap (λ s. s ! 126) (block-is ∙ sym (append-assoc (frontBytes (frontOf x)) (pairsBytes 8 (eight x)) (gather parts 4 ++ last))
-      ∙ sym (append-assoc (frontBytes (frontOf x) ++ pairsBytes 8 (eight x)) (gather parts 4) last))
-      ∙ getD-at ((frontBytes (frontOf x) ++ pairsBytes 8 (eight x)) ++ gather parts 4) (x .extensions) _ 0 126 p
+      ap (λ s. s ! 126) (with-rest t ∙ sym (append-assoc (frontBytes (frontOf x)) (pairsBytes 8 (eight x)) (gather parts 4 ++ (x .extensions ∷ t)))
+      ∙ sym (append-assoc (frontBytes (frontOf x) ++ pairsBytes 8 (eight x)) (gather parts 4) (x .extensions ∷ t)))
+      ∙ getD-at ((frontBytes (frontOf x) ++ pairsBytes 8 (eight x)) ++ gather parts 4) (x .extensions) t 0 126 p
+
+  extensions-are : b ! 126 ≡ x .extensions
+  extensions-are = last-but-one _
 
   same : shown b (plain b) ≡ shown lent x
   same =

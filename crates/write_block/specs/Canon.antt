@@ -1,10 +1,10 @@
 -- Where any block gives a record, its canonical block does: what is read is read again from the bytes that are made of it.
 use Prim.Native.Nat.{ℕ, zero, suc, _+_, _<_, _≤_}
-use mathlib.Core.Path.{_≡_, refl, sym, ap, _∙_, subst}
+use mathlib.Core.Path.{refl, sym, ap, subst}
 use mathlib.Core.List.{List, [], _∷_, _++_}
 use native.Mathlib.Omega.{arith}
 use lib.ListN.{length}
-use Rattle.bits.specs.Bytes.{_!_, part}
+use Rattle.bits.specs.Bytes.{part}
 use Rattle.fixed.specs.Gather.{gather}
 use Rattle.sums.specs.Joined.{checksum, checksum-makes-zero}
 use Rattle.standard_record.specs.Seen.{Seen, seen}
@@ -14,16 +14,15 @@ use Rattle.standard_record.specs.declared.DetailedTiming.{DetailedTiming}
 use Rattle.standard_record.specs.declared.StandardTiming.{StandardTiming}
 use Rattle.standard_record.specs.declared.WhitePoint.{WhitePoint}
 use Rattle.standard_record.specs.declared.Descriptor.{Descriptor}
-use Rattle.standard_slots.specs.Said.{pairsAt}
 use Rattle.standard_slots.specs.declared.Points.{Points}
 use Rattle.standard_reading.specs.Slots.{start}
 use Rattle.write_leaf.specs.Bytes.{Bytes}
 use Rattle.write_leaf.specs.Leaf.{Again}
-use Rattle.write_leaf.specs.Again.{each-byte, each-before, append-bytes, cons-bytes}
+use Rattle.write_leaf.specs.Again.{each-byte, each-before, append-bytes}
 use Rattle.write_timing.specs.Timing.{timingBytes}
 use Rattle.write_timing.specs.Again.{timing-again}
 use Rattle.write_pairs.specs.Run.{run, run-at-most}
-use Rattle.write_pairs.specs.Pairs.{pairsBytes, All, ReadFrom, Back}
+use Rattle.write_pairs.specs.Pairs.{pairsBytes, All, ReadFrom}
 use Rattle.write_pairs.specs.Laws.{all-read}
 use Rattle.write_pairs.specs.Again.{pairs-again, pairs-are-bytes}
 use Rattle.write_slots.specs.Slot.{slotBytes}
@@ -36,7 +35,7 @@ use Rattle.write_block.specs.Canonical.{body, blockOf}
 use Rattle.write_block.specs.Gives.{Gives}
 use Rattle.write_block.specs.Taken.{first, next, eight, rest, taken}
 use Rattle.write_block.specs.Holds.{Holds, slotFrom}
-use Rattle.write_block.specs.Leaves.{pairsSlot, slot-size, slot-shows}
+use Rattle.write_block.specs.Leaves.{slot-size, slot-shows}
 use Rattle.write_block.specs.Given.{same, eight-is, used-up, slot-bytes, slot-holds, first-timing, front-reads}
 use Rattle.write_block.specs.Built.{Fit, body-is, gives}
 

@@ -1,12 +1,11 @@
 -- Where a block gives a record: what each slot takes of the record's lists is what the block's slot shows, and nothing is left.
-use Prim.Native.Nat.{ℕ, zero, suc, _+_, _-_, _<_, _≤_}
+use Prim.Native.Nat.{ℕ, zero, suc, _+_, _-_, _<_}
 use mathlib.Core.Path.{_≡_, refl, sym, ap, _∙_}
 use mathlib.Core.Bool.{Bool, true, false}
 use mathlib.Core.List.{List, [], _∷_, _++_, map, cons≢nil}
 use native.Mathlib.Omega.{arith}
 use lib.Dec.{eqb, eqb·suc-zero}
-use lib.ListN.{length, take, drop, length-take, length-drop}
-use lib.Seq.{getD-take, getD-drop}
+use lib.ListN.{length, length-take, length-drop}
 use borrow.Author.Tests.{ne-eqb, eqb-true, eqb-false}
 use Rattle.bits.specs.Bytes.{_!_, part}
 use Rattle.sums.specs.Sum.{byteSum}
@@ -17,24 +16,25 @@ use Rattle.standard_record.specs.declared.DetailedTiming.{DetailedTiming}
 use Rattle.standard_record.specs.declared.Descriptor.{Descriptor}
 use Rattle.standard_record.specs.declared.Verdict.{Verdict}
 use Rattle.standard_record.specs.declared.Verdict.the-variants.{Accepted, Refused}
-use Rattle.standard_timing.specs.Timing.{clockIn, timingIn}
+use Rattle.standard_timing.specs.Timing.{clockIn}
 use Rattle.standard_verdict.specs.Verdict.{must, _then_, isHeader, beforeSlots}
 use Rattle.standard_verdict.specs.Laws.{then-first}
 use Rattle.standard_slots.specs.Said.{Said, refusal, nothing, timing, pairs, points, described, lists, pairsAt, said}
 use Rattle.standard_slots.specs.Few.{Few, few, pairs-at-most}
-use Rattle.standard_reading.specs.Slots.{start, saidIn, judge, judged, verdictOf}
-use Rattle.standard_reading.specs.Block.{plain, standardOf}
+use Rattle.standard_reading.specs.Slots.{start, saidIn, judge, judged}
+use Rattle.standard_reading.specs.Block.{plain}
 use Rattle.standard_reading.specs.Judged.{end-is-verdict, accepted-has-128}
 use Rattle.standard_reading.specs.Room.{fits, accepted}
 use Rattle.write_pairs.specs.Run.{run-own}
 use Rattle.write_pairs.specs.Pairs.{All}
 use Rattle.write_leaf.specs.Bytes.{Bytes}
+use Rattle.write_leaf.specs.Again.{part-bytes}
 use Rattle.write_head.specs.Front.{Front, ReadsFront}
-use Rattle.write_slots.specs.Words.{SpanInside, words, Entries, entries, Shows, refused, these, shows}
+use Rattle.write_slots.specs.Words.{SpanInside, words, Entries, these, shows}
 use Rattle.write_slots.specs.Laws.{shown-in-block, first-slot-timing, shown-timing}
 use Rattle.write_block.specs.Shown.{Shown, shown, worded, heldWords, frontOf}
 use Rattle.write_block.specs.Gives.{Gives, SpansInside}
-use Rattle.write_block.specs.Taken.{Rest, Empty, eight, rest, taken}
+use Rattle.write_block.specs.Taken.{Empty, eight, rest, taken}
 use Rattle.write_block.specs.Holds.{entriesOf, Holds}
 use Rattle.write_block.specs.Turns.{turns-later, other-later, drop-own, later, turns-map}
 use Rattle.write_block.specs.Slots.{front, Ahead, taken-is, ahead}
@@ -89,12 +89,6 @@ all-split P (x ∷ xs) ys h = let r = all-split P xs ys (h .1) in ((h .0, r .0),
 map-empty : {A B : Type 0} (f : A → B) (xs : List A) → map f xs ≡ [] → xs ≡ []
 map-empty f [] e = refl
 map-empty f (x ∷ xs) e = absurd (cons≢nil e)
-
-bytes-take : (n : ℕ) (s : List ℕ) → Bytes s → Bytes (take n s)
-bytes-take zero s h j = omega arith
-bytes-take (suc n) [] h j = omega arith
-bytes-take (suc n) (x ∷ s) h zero = h 0
-bytes-take (suc n) (x ∷ s) h (suc j) = bytes-take n s (λ k. h (suc k)) j
 
 passed : (size header sum version : Bool) → (must size 7 0 then must header 2 0 then must sum 8 127 then must version 9 18) ≡ Accepted
     → (header ≡ true) × (version ≡ true)
@@ -172,7 +166,7 @@ module _ (b : List ℕ) (r : StandardRecord) (lent : List ℕ) (g : Gives b r le
         ∙ ap these (sym (taken-is lent b (saidIn b) few-in i (3 - i) (rest x i) (ahead-of i (suc (3 - i)) k)))
 
     pub slot-bytes : Bytes slot
-    slot-bytes = bytes-take 18 (drop (start i) b) (λ j. rw (getD-drop (start i) b j 0) (g .bytes (start i + j)))
+    slot-bytes = part-bytes b (start i) 18 (g .bytes)
 
     inside-taken : All (λ d. SpanInside d (length lent)) (taken x i .descriptors)
     inside-taken =

@@ -25,8 +25,11 @@ pub record Gives (b : List ℕ) (r : StandardRecord) (lent : List ℕ) : Type 0 
   pub inside : SpansInside (seen r .descriptors) (length lent)
   pub same : shown b (seen (standardOf b .edid)) ≡ shown lent (seen r)
 
+abbrev pub NoneGives : StandardRecord → List ℕ → Type 0
+NoneGives r lent = (b : List ℕ) → Gives b r lent → ⊥
+
 -- the number, and the output before and after
 pub data Written (r : StandardRecord) (lent before : List ℕ) (number : ℕ) (after : List ℕ) : Type 0 where
   wrong-length : (length before ≡ 128 → ⊥) → number ≡ 10 → after ≡ before → Written r lent before number after
-  no-block : length before ≡ 128 → ((b : List ℕ) → Gives b r lent → ⊥) → number ≡ 11 → after ≡ before → Written r lent before number after
+  no-block : length before ≡ 128 → NoneGives r lent → number ≡ 11 → after ≡ before → Written r lent before number after
   written : length before ≡ 128 → Gives after r lent → number ≡ 0 → after ≡ blockOf (shown lent (seen r)) → Written r lent before number after

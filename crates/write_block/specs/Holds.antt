@@ -1,7 +1,6 @@
 -- What it is to write one slot of a block.
 use Prim.Native.Nat.{ℕ}
-use mathlib.Core.Path.{_≡_}
-use mathlib.Core.Bool.{Bool, true}
+use mathlib.Core.Bool.{Bool}
 use mathlib.Core.List.{List, map}
 use lib.ListN.{length}
 use Rattle.standard_slots.specs.Said.{Lists}

@@ -1,6 +1,6 @@
 -- A slot of each kind is written where its leaf is.
-use Prim.Native.Nat.{ℕ, zero, suc, _+_, _*_, _<_, _≤_}
-use mathlib.Core.Path.{_≡_, refl, sym, ap, _∙_}
+use Prim.Native.Nat.{ℕ, zero, suc, _+_, _*_, _≤_}
+use mathlib.Core.Path.{_≡_, refl, ap, _∙_}
 use mathlib.Core.Bool.{Bool}
 use mathlib.Core.List.{List, [], _∷_, _++_}
 use native.Mathlib.Omega.{arith}
@@ -10,10 +10,9 @@ use Rattle.bits.specs.Bytes.{_!_}
 use Rattle.standard_record.specs.declared.DetailedTiming.{DetailedTiming}
 use Rattle.standard_record.specs.declared.StandardTiming.{StandardTiming}
 use Rattle.standard_record.specs.declared.Descriptor.{Descriptor}
-use Rattle.standard_slots.specs.Said.{four, pairAt, pairsAt, said}
+use Rattle.standard_slots.specs.Said.{four, pairsAt, said}
 use Rattle.standard_slots.specs.Answers.{ofPoints}
 use Rattle.standard_slots.specs.declared.Points.{Points}
-use Rattle.write_leaf.specs.Bytes.{Bytes}
 use Rattle.write_timing.specs.Timing.{timingBytes, WritesTiming}
 use Rattle.write_parts.specs.Pair.{pairLow, pairHigh}
 use Rattle.write_pairs.specs.Pairs.{pairsBytes, All, Back, WritesPairs}

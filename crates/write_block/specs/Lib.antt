@@ -7,8 +7,10 @@ pub mod Holds
 pub mod Turns
 pub mod Slots
 pub mod Leaves
+pub mod Every
 pub mod Given
 pub mod Built
 pub mod Canon
+pub mod Own
 pub mod Promises
 pub mod Dropped

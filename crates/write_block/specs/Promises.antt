@@ -1,118 +1,106 @@
 -- What the writer promises: of every answer that its contract allows, and of the canonical block.
-use Prim.Native.Nat.{ℕ, _+_, _<_, _≤_}
-use mathlib.Core.Path.{_≡_, refl, sym, ap, _∙_, subst}
-use mathlib.Core.List.{List, [], _∷_}
+use Prim.Native.Nat.{ℕ}
+use mathlib.Core.Path.{_≡_, refl, sym, ap, _∙_}
+use mathlib.Core.List.{List}
 use native.Mathlib.Omega.{arith}
 use lib.ListN.{length}
-use Rattle.bits.specs.Bytes.{part}
 use Rattle.sums.specs.Sum.{byteSum}
 use Rattle.sums.specs.Joined.{checksum-makes-zero}
-use Rattle.standard_record.specs.Seen.{seen, shows as holds}
-use Rattle.standard_record.specs.declared.Held.{Held}
-use Rattle.standard_record.specs.declared.Descriptor.{Descriptor}
-use Rattle.standard_record.specs.declared.SecondaryTiming.{SecondaryTiming}
+use Rattle.standard_record.specs.Seen.{seen}
 use Rattle.standard_record.specs.declared.StandardRecord.{StandardRecord}
 use Rattle.standard_record.specs.declared.Verdict.the-variants.{Accepted}
-use Rattle.standard_slots.specs.Spans.{Sound, SoundSecond, Sounds}
-use Rattle.standard_reading.specs.Slots.{start}
-use Rattle.standard_reading.specs.Block.{descriptorsOf, plain, standardOf}
-use Rattle.standard_reading.specs.Judged.{accepted-has-128, sounds}
-use Rattle.standard_reading.specs.Room.{fits, accepted}
+use Rattle.standard_reading.specs.Block.{standardOf}
 use Rattle.write_leaf.specs.Bytes.{Bytes}
-use Rattle.write_slots.specs.Words.{SecondaryInside, SpanInside}
 use Rattle.write_block.specs.Shown.{shown}
-use Rattle.write_block.specs.Canonical.{slotOf, body, blockOf}
-use Rattle.write_block.specs.Gives.{SpansInside, Gives, Written, wrong-length, no-block, written}
-use Rattle.write_block.specs.Built.{slot-is, block-slot}
-use Rattle.write_block.specs.Canon.{fit, canonical-gives}
-
--- ---- of every answer
-
-module _ {r : StandardRecord} {lent before after : List ℕ} {number : ℕ} (w : Written r lent before number after) where
-  -- on 0 the block gives the record, it is the canonical one, and its sum is zero
-  pub record Success : Type 0 where
-    pub gives : Gives after r lent
-    pub is : after ≡ blockOf (shown lent (seen r))
-    pub sum : byteSum after ≡ 0
-
-  pub written-gives : number ≡ 0 → Success
-  written-gives e = go w e
-    where
-      go : {number : ℕ} → Written r lent before number after → number ≡ 0 → Success
-      go (wrong-length h n a) e = absurd (omega arith)
-      go (no-block s h n a) e = absurd (omega arith)
-      go (written s g n a) e = record { gives = g; is = a; sum = rw a (checksum-makes-zero (body (shown lent (seen r))) .1) }
-
-  -- 11 exactly where the output has its length and no block gives the record
-  pub refused-is-none : number ≡ 11 → (b : List ℕ) → Gives b r lent → ⊥
-  refused-is-none e = go w e
-    where
-      go : {number : ℕ} → Written r lent before number after → number ≡ 11 → (b : List ℕ) → Gives b r lent → ⊥
-      go (wrong-length h n a) e = absurd (omega arith)
-      go (no-block s h n a) e = h
-      go (written s g n a) e = absurd (omega arith)
-
-  pub none-is-refused : length before ≡ 128 → ((b : List ℕ) → Gives b r lent → ⊥) → number ≡ 11
-  none-is-refused size none = go w
-    where
-      go : {number : ℕ} → Written r lent before number after → number ≡ 11
-      go (wrong-length h n a) = absurd (h size)
-      go (no-block s h n a) = n
-      go (written s g n a) = absurd (none after g)
-
-  -- a refusal leaves the output as it was
-  pub untouched : (number ≡ 0 → ⊥) → after ≡ before
-  untouched h = go w h
-    where
-      go : {number : ℕ} → Written r lent before number after → (number ≡ 0 → ⊥) → after ≡ before
-      go (wrong-length l n a) h = a
-      go (no-block s l n a) h = a
-      go (written s g n a) h = absurd (h n)
-
--- at most one answer fits
-pub one-answer : {r : StandardRecord} {lent before after after′ : List ℕ} {number number′ : ℕ}
-    → Written r lent before number after → Written r lent before number′ after′ → (number ≡ number′) × (after ≡ after′)
-one-answer (wrong-length h n a) (wrong-length k m c) = (n ∙ sym m, a ∙ sym c)
-one-answer (wrong-length h n a) (no-block s k m c) = absurd (h s)
-one-answer (wrong-length h n a) (written s k m c) = absurd (h s)
-one-answer (no-block s h n a) (wrong-length k m c) = absurd (k s)
-one-answer (no-block s h n a) (no-block t k m c) = (n ∙ sym m, a ∙ sym c)
-one-answer (no-block s h n a) (written t k m c) = absurd (h _ k)
-one-answer (written s h n a) (wrong-length k m c) = absurd (k s)
-one-answer (written s h n a) (no-block t k m c) = absurd (k _ h)
-one-answer (written s h n a) (written t k m c) = (n ∙ sym m, a ∙ sym c)
-
--- ---- a block and its own record
-
-second-inside : (t : SecondaryTiming) → SoundSecond t 126 → SecondaryInside t 128
-second-inside SecondaryTiming.None h = tt
-second-inside (SecondaryTiming.GTF start c m k j) h = tt
-second-inside (SecondaryTiming.Other kind d) h = omega arith
-
-inside : (b : List ℕ) (d : Descriptor) → Sound b d 126 → SpanInside d 128
-inside b (Descriptor.Serial t) h = omega (arith, h .inside)
-inside b (Descriptor.Text t) h = omega (arith, h .inside)
-inside b (Descriptor.Range l t) h = second-inside t h
-inside b (Descriptor.Name t) h = omega (arith, h .inside)
-inside b (Descriptor.Undefined tag t) h = omega arith
-inside b (Descriptor.MakerDefined tag t) h = omega arith
-
-all-inside : (b : List ℕ) (hs : List Held) → Sounds b hs 126 → SpansInside hs 128
-all-inside b [] h = tt
-all-inside b (x ∷ hs) h = (inside b (x .descriptor) (h .0), all-inside b hs (h .1))
+use Rattle.write_block.specs.Canonical.{body, blockOf}
+use Rattle.write_block.specs.Gives.{SpansInside, Gives, NoneGives, Written, wrong-length, no-block, written}
+use Rattle.write_block.specs.Canon.{canonical-gives}
+use Rattle.write_block.specs.Own.{own-inside}
 
 -- every accepted block gives its own record
 pub gives-own : (b : List ℕ) → Bytes b → standardOf b .end ≡ Accepted → Gives b (standardOf b .edid) b
-gives-own b h e = record {
-  bytes = h;
-  accepted = e;
-  inside =
-      let is = ap seen (accepted b e) ∙ holds (plain b) (fits b) in
-      rw (is, accepted-has-128 b e) (all-inside b (descriptorsOf b 4) (sounds b e));
-  same = refl;
-}
+gives-own b h e = record { bytes = h; accepted = e; inside = own-inside b e; same = refl }
 
--- ---- the canonical block depends on what is shown alone
+-- a record that its canonical block does not give is given by none
+pub refused-if : (r : StandardRecord) (lent : List ℕ) → (Gives (blockOf (shown lent (seen r))) r lent → ⊥) → NoneGives r lent
+refused-if r lent h b g = h (canonical-gives b r lent g)
+
+-- ---- of every answer
+
+-- on 0 the block gives the record, it is the canonical one, and its sum is zero
+pub record Success (r : StandardRecord) (lent after : List ℕ) : Type 0 where
+  pub gives : Gives after r lent
+  pub is : after ≡ blockOf (shown lent (seen r))
+  pub sum : byteSum after ≡ 0
+
+module _ {r : StandardRecord} {lent before after : List ℕ} {number : ℕ} where
+  pub written-gives : Written r lent before number after → number ≡ 0 → Success r lent after
+  written-gives (wrong-length h n a) e = absurd (omega arith)
+  written-gives (no-block s h n a) e = absurd (omega arith)
+  written-gives (written s g n a) e = record { gives = g; is = a; sum = rw a (checksum-makes-zero (body (shown lent (seen r))) .1) }
+
+  -- a refusal leaves the output as it was
+  pub untouched : Written r lent before number after → (number ≡ 0 → ⊥) → after ≡ before
+  untouched (wrong-length l n a) h = a
+  untouched (no-block s l n a) h = a
+  untouched (written s g n a) h = absurd (h n)
+
+  -- 10 exactly where the output is not 128 bytes long
+  pub ten-exactly : Written r lent before number after → (number ≡ 10 → length before ≡ 128 → ⊥) × ((length before ≡ 128 → ⊥) → number ≡ 10)
+  ten-exactly (wrong-length h n a) = (λ e. h, λ l. n)
+  ten-exactly (no-block s h n a) = (λ e. absurd (omega arith), λ l. absurd (l s))
+  ten-exactly (written s g n a) = (λ e. absurd (omega arith), λ l. absurd (l s))
+
+  -- 11 exactly where it is and no block gives the record
+  pub refused-exactly : Written r lent before number after
+      → (number ≡ 11 → (length before ≡ 128) × NoneGives r lent) × (length before ≡ 128 → NoneGives r lent → number ≡ 11)
+  refused-exactly (wrong-length h n a) = (λ e. absurd (omega arith), λ s. absurd (h s))
+  refused-exactly (no-block s h n a) = (λ e. (s, h), λ s none. n)
+  refused-exactly (written s g n a) = (λ e. absurd (omega arith), λ s none. absurd (none after g))
+
+  -- what some block gives is written
+  pub given-is-written : Written r lent before number after → length before ≡ 128 → (b : List ℕ) → Gives b r lent → number ≡ 0
+  given-is-written (wrong-length h n a) size b g = absurd (h size)
+  given-is-written (no-block s h n a) size b g = absurd (h b g)
+  given-is-written (written s h n a) size b g = n
+
+  -- a record with a span outside the bytes lent is refused
+  pub outside-is-refused : Written r lent before number after → length before ≡ 128 → (SpansInside (seen r .descriptors) (length lent) → ⊥) → number ≡ 11
+  outside-is-refused w size out = refused-exactly w .1 size (λ b g. out (g .inside))
+
+-- the record of every accepted block is written
+pub read-is-written : (b : List ℕ) {before after : List ℕ} {number : ℕ} → Bytes b → standardOf b .end ≡ Accepted
+    → Written (standardOf b .edid) b before number after → length before ≡ 128 → number ≡ 0
+read-is-written b h e w size = given-is-written w size b (gives-own b h e)
+
+-- ---- what is shown decides
+
+-- of two records that show the same, and that the same blocks give
+alike : {r r′ : StandardRecord} {lent lent′ before after after′ : List ℕ} {number number′ : ℕ} → shown lent (seen r) ≡ shown lent′ (seen r′)
+    → ((b : List ℕ) → Gives b r lent → Gives b r′ lent′) → ((b : List ℕ) → Gives b r′ lent′ → Gives b r lent)
+    → Written r lent before number after → Written r′ lent′ before number′ after′ → (number ≡ number′) × (after ≡ after′)
+alike e to back (wrong-length h n a) (wrong-length k m c) = (n ∙ sym m, a ∙ sym c)
+alike e to back (wrong-length h n a) (no-block s k m c) = absurd (h s)
+alike e to back (wrong-length h n a) (written s k m c) = absurd (h s)
+alike e to back (no-block s h n a) (wrong-length k m c) = absurd (k s)
+alike e to back (no-block s h n a) (no-block t k m c) = (n ∙ sym m, a ∙ sym c)
+alike e to back (no-block s h n a) (written t k m c) = absurd (h _ (back _ k))
+alike e to back (written s h n a) (wrong-length k m c) = absurd (k s)
+alike e to back (written s h n a) (no-block t k m c) = absurd (k _ (to _ h))
+alike e to back (written s h n a) (written t k m c) = (n ∙ sym m, a ∙ ap blockOf e ∙ sym c)
+
+-- at most one answer fits
+pub one-written : {r : StandardRecord} {lent before after after′ : List ℕ} {number number′ : ℕ}
+    → Written r lent before number after → Written r lent before number′ after′ → (number ≡ number′) × (after ≡ after′)
+one-written = alike refl (λ b g. g) (λ b g. g)
+
+-- records that show the same, each with its spans inside, have the same answer
+pub shown-alone : {r r′ : StandardRecord} {lent lent′ before after after′ : List ℕ} {number number′ : ℕ} → shown lent (seen r) ≡ shown lent′ (seen r′)
+    → SpansInside (seen r .descriptors) (length lent) → SpansInside (seen r′ .descriptors) (length lent′)
+    → Written r lent before number after → Written r′ lent′ before number′ after′ → (number ≡ number′) × (after ≡ after′)
+shown-alone e i i′ =
+    alike e (λ b g. record { bytes = g .bytes; accepted = g .accepted; inside = i′; same = g .same ∙ e })
+    (λ b g. record { bytes = g .bytes; accepted = g .accepted; inside = i; same = g .same ∙ sym e })
 
 -- the same shown record, the same bytes
 pub canonical : {r r′ : StandardRecord} {lent lent′ before before′ after after′ : List ℕ} → shown lent (seen r) ≡ shown lent′ (seen r′)
@@ -122,17 +110,7 @@ canonical e w w′ = written-gives w refl .is ∙ ap blockOf e ∙ sym (written-
 -- what was read from a written block is written as the same bytes
 pub written-again : {r : StandardRecord} {lent before after before′ after′ : List ℕ} {number : ℕ} → Written r lent before 0 after
     → length before′ ≡ 128 → Written (standardOf after .edid) after before′ number after′ → (number ≡ 0) × (after′ ≡ after)
-written-again {after = after} w size (wrong-length h n a) = absurd (h size)
-written-again {after = after} w size (no-block s h n a) =
-    let g = written-gives w refl .gives in absurd (h after (gives-own after (g .bytes) (g .accepted)))
-written-again {after = after} w size (written s g n a) =
-    let v = written-gives w refl in (n, a ∙ ap blockOf (v .gives .same) ∙ sym (v .is))
-
--- a record that its canonical block does not give is given by none
-pub refused-if : (r : StandardRecord) (lent : List ℕ) → (Gives (blockOf (shown lent (seen r))) r lent → ⊥) → (b : List ℕ) → Gives b r lent → ⊥
-refused-if r lent h b g = h (canonical-gives b r lent g)
-
--- slot i of it is the canonical slot numbered i + 1
-pub canonical-slot : (b : List ℕ) (r : StandardRecord) (lent : List ℕ) → Gives b r lent → (i : ℕ) → i < 4
-    → part (blockOf (shown lent (seen r))) (start i) 18 ≡ slotOf (shown lent (seen r)) (i + 1)
-canonical-slot b r lent g i h = let f = fit b r lent g in block-slot r lent f i h ∙ sym (slot-is r lent f i h)
+written-again {after = after} w size w′ =
+    let v = written-gives w refl in
+    let n = read-is-written after (v .gives .bytes) (v .gives .accepted) w′ size in
+    (n, written-gives w′ n .is ∙ ap blockOf (v .gives .same) ∙ sym (v .is))

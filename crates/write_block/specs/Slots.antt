@@ -1,55 +1,33 @@
 -- What each slot takes of a record's lists: nothing is lost, and where a block gives the record it is what the block's slot lists.
-use Prim.Native.Nat.{ℕ, zero, suc, _+_, _<_, _≤_}
-use mathlib.Core.Path.{_≡_, refl, sym, ap, ap₂, _∙_}
+use Prim.Native.Nat.{ℕ, suc, _+_}
+use mathlib.Core.Path.{_≡_, refl, sym, ap, _∙_}
 use mathlib.Core.List.{List, [], _∷_, _++_, map}
 use native.Mathlib.Omega.{arith}
 use lib.ListN.{length, drop, length-map}
-use Rattle.fixed.specs.Numbered.{turns}
+use Rattle.fixed.specs.Numbered.{Wrapper, turns}
 use Rattle.standard_record.specs.Seen.{Seen}
 use Rattle.standard_record.specs.Held.{heldPoint, heldPair, heldTiming, held}
 use Rattle.standard_record.specs.declared.DetailedTiming.{DetailedTiming}
 use Rattle.standard_record.specs.declared.StandardTiming.{StandardTiming}
 use Rattle.standard_record.specs.declared.WhitePoint.{WhitePoint}
 use Rattle.standard_record.specs.declared.Descriptor.{Descriptor}
-use Rattle.standard_record.specs.declared.Held.{Held}
-use Rattle.standard_slots.specs.Said.{Said, Lists, four, lists}
+use Rattle.standard_slots.specs.Said.{Said, Lists, lists}
 use Rattle.standard_slots.specs.Few.{Few, OneKind, one-kind, timings-alone, pairs-alone, points-alone, descriptors-alone}
-use Rattle.write_pairs.specs.Run.{run, Other, run-front, run-own}
-use Rattle.write_slots.specs.Words.{Words, words, Entries, entries}
+use Rattle.write_pairs.specs.Run.{run, run-front, run-own}
+use Rattle.write_slots.specs.Words.{words, Entries, entries}
 use Rattle.write_block.specs.Shown.{worded, heldWords}
-use Rattle.write_block.specs.Taken.{Rest, first, next, without, eight, rest, taken}
+use Rattle.write_block.specs.Taken.{Rest, behind, first, next, without, eight, rest, taken}
 use Rattle.write_block.specs.Holds.{entriesOf}
-use Rattle.write_block.specs.Turns.{used, later, turns-later, other-later, drop-own, map-drop, run-map}
+use Rattle.write_block.specs.Turns.{used, later, other-later, drop-own, map-drop, run-map}
 
--- ---- of four lists the first that has an entry is taken, and of each other nothing
+-- what holds of nothing and of ys, holds of ys behind xs
+pub either : {A B : Type 0} (P : List B → Type 0) (xs : List A) {ys : List B} → P [] → P ys → P (behind xs ys)
+either P [] n h = h
+either P (x ∷ xs) n h = n
 
-module _ (P : List DetailedTiming → Type 0) (n : P []) where
-  pub of-timings : (ts : List DetailedTiming) (ps : List StandardTiming) (ws : List WhitePoint) (ds : List Descriptor) → P ts → P (first ts ps ws ds .timings)
-  of-timings [] [] [] ds h = n
-  of-timings [] [] (w ∷ ws) ds h = n
-  of-timings [] (p ∷ ps) ws ds h = n
-  of-timings (t ∷ ts) ps ws ds h = h
-
-module _ (P : List StandardTiming → Type 0) (n : P []) where
-  pub of-pairs : (ts : List DetailedTiming) (ps : List StandardTiming) (ws : List WhitePoint) (ds : List Descriptor) → P ps → P (first ts ps ws ds .pairs)
-  of-pairs [] [] [] ds h = n
-  of-pairs [] [] (w ∷ ws) ds h = n
-  of-pairs [] (p ∷ ps) ws ds h = h
-  of-pairs (t ∷ ts) ps ws ds h = n
-
-module _ (P : List WhitePoint → Type 0) (n : P []) where
-  pub of-points : (ts : List DetailedTiming) (ps : List StandardTiming) (ws : List WhitePoint) (ds : List Descriptor) → P ws → P (first ts ps ws ds .points)
-  of-points [] [] [] ds h = n
-  of-points [] [] (w ∷ ws) ds h = h
-  of-points [] (p ∷ ps) ws ds h = n
-  of-points (t ∷ ts) ps ws ds h = n
-
-module _ (P : List Descriptor → Type 0) (n : P []) where
-  pub of-descriptors : (ts : List DetailedTiming) (ps : List StandardTiming) (ws : List WhitePoint) (ds : List Descriptor) → P ds → P (first ts ps ws ds .descriptors)
-  of-descriptors [] [] [] ds h = h
-  of-descriptors [] [] (w ∷ ws) ds h = n
-  of-descriptors [] (p ∷ ps) ws ds h = n
-  of-descriptors (t ∷ ts) ps ws ds h = n
+-- the entries xs, numbered n, stand at the front of bs
+abbrev AtFront : {A B : Type 0} → Wrapper A B → ℕ → List B → List A → Type 0
+AtFront w n bs xs = bs ≡ map (w .wrap n) xs ++ drop (length xs) bs
 
 -- ---- nothing is lost: each list is what the slots took, and what is left
 
@@ -68,12 +46,11 @@ module _ (x : Seen) where
       let ts = run heldTiming (i + 1) 1 (r .timings) in
       let ps = run heldPair (i + 1) 6 (r .pairs) in
       let ws = run heldPoint (i + 1) 2 (r .points) in
-      let ds = run held (i + 1) 1 (r .descriptors) in
       record {
-        timings = of-timings (λ l. r .timings ≡ map (heldTiming .wrap (i + 1)) l ++ drop (length l) (r .timings)) refl ts ps ws ds (run-front heldTiming (i + 1) 1 (r .timings));
-        pairs = of-pairs (λ l. r .pairs ≡ map (heldPair .wrap (i + 1)) l ++ drop (length l) (r .pairs)) refl ts ps ws ds (run-front heldPair (i + 1) 6 (r .pairs));
-        points = of-points (λ l. r .points ≡ map (heldPoint .wrap (i + 1)) l ++ drop (length l) (r .points)) refl ts ps ws ds (run-front heldPoint (i + 1) 2 (r .points));
-        descriptors = of-descriptors (λ l. r .descriptors ≡ map (held .wrap (i + 1)) l ++ drop (length l) (r .descriptors)) refl ts ps ws ds (run-front held (i + 1) 1 (r .descriptors));
+        timings = run-front heldTiming (i + 1) 1 (r .timings);
+        pairs = either (AtFront heldPair (i + 1) (r .pairs)) ts refl (run-front heldPair (i + 1) 6 (r .pairs));
+        points = either (AtFront heldPoint (i + 1) (r .points)) ts refl (either (AtFront heldPoint (i + 1) (r .points)) ps refl (run-front heldPoint (i + 1) 2 (r .points)));
+        descriptors = either (AtFront held (i + 1) (r .descriptors)) ts refl (either (AtFront held (i + 1) (r .descriptors)) ps refl (either (AtFront held (i + 1) (r .descriptors)) ws refl (run-front held (i + 1) 1 (r .descriptors))));
       }
 
   -- so the lists are the turns of the slots, and what is left after n

@@ -1,7 +1,7 @@
 -- How the lists of a record are used up, slot by slot.
 use Prim.Native.Nat.{ℕ, zero, suc, _+_}
 use mathlib.Core.Path.{_≡_}
-use mathlib.Core.List.{List, [], _∷_, map}
+use mathlib.Core.List.{List, [], _∷_}
 use lib.ListN.{length, drop}
 use Rattle.standard_record.specs.Seen.{Seen}
 use Rattle.standard_record.specs.Held.{heldPoint, heldPair, heldTiming, held}
@@ -29,12 +29,14 @@ pub record Empty (r : Rest) : Type 0 where
   pub points : r .points ≡ []
   pub descriptors : r .descriptors ≡ []
 
--- the first of four lists that has an entry
+-- ys, unless there is an entry before them
+abbrev pub behind : {A B : Type 0} → List A → List B → List B
+behind [] ys = ys
+behind (x ∷ xs) ys = []
+
+-- the first of four lists that has an entry, and nothing of the others
 abbrev pub first : List DetailedTiming → List StandardTiming → List WhitePoint → List Descriptor → Lists
-first (t ∷ ts) ps ws ds = four (t ∷ ts) [] [] []
-first [] (p ∷ ps) ws ds = four [] (p ∷ ps) [] []
-first [] [] (w ∷ ws) ds = four [] [] (w ∷ ws) []
-first [] [] [] ds = four [] [] [] ds
+first ts ps ws ds = four ts (behind ts ps) (behind ts (behind ps ws)) (behind ts (behind ps (behind ws ds)))
 
 -- what slot n takes: the next entries with its number, of one kind, and no more than it holds
 unfoldable pub next : ℕ → Rest → Lists

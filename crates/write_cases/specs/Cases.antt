@@ -1,11 +1,11 @@
 -- Worked cases, computed: records made of the specimen's front and the lists that stand here, and what is written of each.
-use Prim.Native.Nat.{ℕ, _<_}
+use Prim.Native.Nat.{ℕ}
 use mathlib.Core.Path.{_≡_, refl, sym, ap, _∙_}
 use mathlib.Core.Bool.{Bool, true, false, cond, true≢false}
 use mathlib.Core.List.{List, [], _∷_}
 use native.Mathlib.Omega.{arith}
 use lib.Dec.{eqb, ltb}
-use lib.ListN.{length}
+use lib.ListN.{length, replicate}
 use borrow.Author.Tests.{eqb-false, ltb-true}
 use Rattle.timing.specs.Axis.{pixels, lines, backPorch, acrossOf, downOf}
 use Rattle.timing.specs.declared.SyncPolarity.the-variants.{Positive}
@@ -20,7 +20,7 @@ use Rattle.standard_record.specs.declared.HeldTiming.{HeldTiming}
 use Rattle.standard_record.specs.declared.HeldPair.{HeldPair}
 use Rattle.standard_record.specs.declared.Held.{Held}
 use Rattle.standard_record.specs.declared.Descriptor.{Descriptor}
-use Rattle.standard_record.specs.declared.Descriptor.the-variants.{Name, Text, MakerDefined}
+use Rattle.standard_record.specs.declared.Descriptor.the-variants.{Name, MakerDefined}
 use Rattle.standard_record.specs.declared.Sync.the-variants.{DigitalSeparate}
 use Rattle.standard_record.specs.declared.Verdict.{Verdict}
 use Rattle.standard_record.specs.declared.Verdict.the-variants.{Accepted, Refused}
@@ -30,7 +30,10 @@ use Rattle.standard_parts.specs.Text.{every}
 use Rattle.standard_parts.specs.Timings.{flagsOf, pairOf}
 use Rattle.standard_head.specs.Head.{productIn, versionIn, displayIn, colorsIn}
 use Rattle.standard_verdict.specs.Verdict.{beforeSlots}
-use Rattle.standard_slots.specs.Said.{said}
+use Rattle.standard_slots.specs.Said.{said, pointAt}
+use Rattle.standard_parts.specs.Descriptors.{closingRefusal}
+use Rattle.standard_parts.specs.Color.{pointOf}
+use Rattle.write_parts.specs.Point.{pointBytes}
 use Rattle.standard_reading.specs.Slots.{judged, verdictOf}
 use Rattle.standard_reading.specs.Block.{flagsIn, plain, recordOf, standardOf}
 use Rattle.standard_reading.specs.Judged.{end-is-verdict}
@@ -44,9 +47,9 @@ use Rattle.write_slots.specs.Slot.{slotBytes}
 use Rattle.write_head.specs.Front.{frontBytes}
 use Rattle.write_block.specs.Shown.{Shown, shown}
 use Rattle.write_block.specs.Canonical.{body, blockOf}
-use Rattle.write_block.specs.Gives.{Gives, Written, wrong-length, no-block, written}
+use Rattle.write_block.specs.Gives.{NoneGives, Written, wrong-length, no-block, written}
 use Rattle.write_block.specs.Given.{same}
-use Rattle.write_block.specs.Promises.{gives-own, refused-if}
+use Rattle.write_block.specs.Promises.{refused-if}
 use Rattle.demands.specs.Specimen.{specimen}
 
 -- ---- the records
@@ -86,25 +89,51 @@ panel ts ps ds = holding (record {
   extensions = 0;
 })
 
--- ---- what is written
+-- ---- the cases
 
-pub data Answer : Type 0 where
-  block : List ℕ → Answer
-  none : Answer
-
--- the canonical block of r, which gives it; or no block does
-abbrev pub Says : StandardRecord → List ℕ → Answer → Type 0
-Says r lent (block b) = (blockOf (shown lent (seen r)) ≡ b) × Gives b r lent
-Says r lent none = (b : List ℕ) → Gives b r lent → ⊥
-
+-- a record, the bytes lent, the output as it was; the number, and the output as it then is
 pub record Case : Type 0 where
   pub given : StandardRecord
   pub lent : List ℕ
-  pub answer : Answer
+  pub before : List ℕ
+  pub number : ℕ
+  pub after : List ℕ
+
+-- an output, as it was
+abbrev out : ℕ → List ℕ
+out n = replicate n 0x55
+
+-- it is refused, and the output stays as it was
+abbrev refusal : StandardRecord → List ℕ → Case
+refusal r lent = record { given = r; lent = lent; before = out 128; number = 11; after = out 128 }
 
 -- one timing in the first slot, with this clock and front porch
 abbrev first : ℕ → ℕ → List HeldTiming
 first clock front = heldTiming .wrap 1 (lobby clock front) ∷ []
+
+-- an accepted block with what the reading passes over: dropped digits, 01 01 between pairs, an unused point, 00 as padding, a slot of tag 10
+unfoldable pub careless : List ℕ
+careless =
+    0x00 ∷ 0xff ∷ 0xff ∷ 0xff ∷ 0xff ∷ 0xff ∷ 0xff ∷ 0x00 ∷ 0x84 ∷ 0x5f ∷ 0x34 ∷ 0x12 ∷ 0x01 ∷ 0x00 ∷ 0x00 ∷ 0x00 ∷
+    0x0a ∷ 0x1e ∷ 0x01 ∷ 0x03 ∷ 0xff ∷ 0x20 ∷ 0x00 ∷ 0x64 ∷ 0x0a ∷ 0x00 ∷ 0x00 ∷ 0x80 ∷ 0x40 ∷ 0x80 ∷ 0x40 ∷ 0x80 ∷
+    0x40 ∷ 0x80 ∷ 0x40 ∷ 0x01 ∷ 0x08 ∷ 0xff ∷ 0x01 ∷ 0x01 ∷ 0x81 ∷ 0x80 ∷ 0x01 ∷ 0x01 ∷ 0x01 ∷ 0x00 ∷ 0x01 ∷ 0x01 ∷
+    0x01 ∷ 0x01 ∷ 0x01 ∷ 0x01 ∷ 0x01 ∷ 0x01 ∷ 0xa0 ∷ 0x0f ∷ 0x20 ∷ 0x00 ∷ 0x31 ∷ 0x58 ∷ 0x1c ∷ 0x20 ∷ 0x28 ∷ 0x80 ∷
+    0x14 ∷ 0x00 ∷ 0x40 ∷ 0xb4 ∷ 0x10 ∷ 0x00 ∷ 0x00 ∷ 0x1f ∷ 0x00 ∷ 0x00 ∷ 0x07 ∷ 0xfb ∷ 0x07 ∷ 0x00 ∷ 0x09 ∷ 0x09 ∷
+    0x09 ∷ 0x09 ∷ 0x01 ∷ 0xf5 ∷ 0x40 ∷ 0x50 ∷ 0xff ∷ 0x0a ∷ 0x20 ∷ 0x20 ∷ 0x00 ∷ 0x00 ∷ 0x07 ∷ 0xfc ∷ 0x07 ∷ 0x4c ∷
+    0x4f ∷ 0x0a ∷ 0x00 ∷ 0x20 ∷ 0x00 ∷ 0x20 ∷ 0x00 ∷ 0x20 ∷ 0x00 ∷ 0x20 ∷ 0x00 ∷ 0x20 ∷ 0x00 ∷ 0x00 ∷ 0x07 ∷ 0x10 ∷
+    0x07 ∷ 0x09 ∷ 0x09 ∷ 0x09 ∷ 0x09 ∷ 0x09 ∷ 0x09 ∷ 0x09 ∷ 0x09 ∷ 0x09 ∷ 0x09 ∷ 0x09 ∷ 0x09 ∷ 0x09 ∷ 0x00 ∷ 0xbc ∷ []
+
+-- what is written of its record
+unfoldable pub careful : List ℕ
+careful =
+    0x00 ∷ 0xff ∷ 0xff ∷ 0xff ∷ 0xff ∷ 0xff ∷ 0xff ∷ 0x00 ∷ 0x04 ∷ 0x40 ∷ 0x34 ∷ 0x12 ∷ 0x01 ∷ 0x00 ∷ 0x00 ∷ 0x00 ∷
+    0x0a ∷ 0x1e ∷ 0x01 ∷ 0x03 ∷ 0x81 ∷ 0x00 ∷ 0x00 ∷ 0x64 ∷ 0x0a ∷ 0x00 ∷ 0x00 ∷ 0x80 ∷ 0x40 ∷ 0x80 ∷ 0x40 ∷ 0x80 ∷
+    0x40 ∷ 0x80 ∷ 0x40 ∷ 0x01 ∷ 0x08 ∷ 0x80 ∷ 0x81 ∷ 0x80 ∷ 0x01 ∷ 0x00 ∷ 0x01 ∷ 0x01 ∷ 0x01 ∷ 0x01 ∷ 0x01 ∷ 0x01 ∷
+    0x01 ∷ 0x01 ∷ 0x01 ∷ 0x01 ∷ 0x01 ∷ 0x01 ∷ 0xa0 ∷ 0x0f ∷ 0x20 ∷ 0x00 ∷ 0x31 ∷ 0x58 ∷ 0x1c ∷ 0x20 ∷ 0x28 ∷ 0x80 ∷
+    0x14 ∷ 0x00 ∷ 0x40 ∷ 0xb4 ∷ 0x10 ∷ 0x00 ∷ 0x00 ∷ 0x1e ∷ 0x00 ∷ 0x00 ∷ 0x00 ∷ 0xfb ∷ 0x00 ∷ 0x01 ∷ 0x05 ∷ 0x40 ∷
+    0x50 ∷ 0xff ∷ 0x00 ∷ 0x00 ∷ 0x00 ∷ 0x00 ∷ 0x00 ∷ 0x0a ∷ 0x20 ∷ 0x20 ∷ 0x00 ∷ 0x00 ∷ 0x00 ∷ 0xfc ∷ 0x00 ∷ 0x4c ∷
+    0x4f ∷ 0x0a ∷ 0x20 ∷ 0x20 ∷ 0x20 ∷ 0x20 ∷ 0x20 ∷ 0x20 ∷ 0x20 ∷ 0x20 ∷ 0x20 ∷ 0x20 ∷ 0x00 ∷ 0x00 ∷ 0x00 ∷ 0x10 ∷
+    0x00 ∷ 0x00 ∷ 0x00 ∷ 0x00 ∷ 0x00 ∷ 0x00 ∷ 0x00 ∷ 0x00 ∷ 0x00 ∷ 0x00 ∷ 0x00 ∷ 0x00 ∷ 0x00 ∷ 0x00 ∷ 0x00 ∷ 0x8c ∷ []
 
 unfoldable pub cases : List Case
 cases =
@@ -113,25 +142,34 @@ cases =
       given = panel (first 40000000 40) (heldPair .wrap 0 (mode 1280 5 4 60) ∷ [])
           (held .wrap 2 (called 77 5) ∷ held .wrap 3 (MakerDefined 0 (record { start = 95; len = 13 })) ∷ held .wrap 4 (MakerDefined 0 (record { start = 113; len = 13 })) ∷ []);
       lent = specimen;
-      answer = block specimen;
+      before = out 128;
+      number = 0;
+      after = specimen;
     }
+    -- a block's own record, which is written as other bytes
+    ∷ record { given = standardOf careless .edid; lent = careless; before = out 128; number = 0; after = careful }
+    -- an output of 127 bytes
+    ∷ record { given = standardOf specimen .edid; lent = specimen; before = out 127; number = 10; after = out 127 }
     -- 256 wide, 16:10 at 61 Hz, which 01 01 would be
-    ∷ record { given = panel (first 40000000 40) (heldPair .wrap 0 (mode 256 16 10 61) ∷ []) []; lent = []; answer = none }
+    ∷ refusal (panel (first 40000000 40) (heldPair .wrap 0 (mode 256 16 10 61) ∷ []) []) []
     -- a span one byte outside
-    ∷ record { given = panel (first 40000000 40) [] (held .wrap 2 (called 0 3) ∷ []); lent = 0x4c ∷ 0x4f ∷ []; answer = none }
+    ∷ refusal (panel (first 40000000 40) [] (held .wrap 2 (called 0 3) ∷ [])) (0x4c ∷ 0x4f ∷ [])
+    -- a text of length 0 that starts one byte outside
+    ∷ refusal (panel (first 40000000 40) [] (held .wrap 2 (called 3 0) ∷ [])) (0x4c ∷ 0x4f ∷ [])
     -- a text that holds 0x0a
-    ∷ record { given = panel (first 40000000 40) [] (held .wrap 2 (called 0 3) ∷ []); lent = 0x4c ∷ 0x0a ∷ 0x4f ∷ []; answer = none }
+    ∷ refusal (panel (first 40000000 40) [] (held .wrap 2 (called 0 3) ∷ [])) (0x4c ∷ 0x0a ∷ 0x4f ∷ [])
     -- two kinds in one slot
-    ∷ record { given = panel (heldTiming .wrap 1 (lobby 40000000 40) ∷ heldTiming .wrap 2 (lobby 40000000 40) ∷ []) [] (held .wrap 2 (called 0 1) ∷ []); lent = 0x4c ∷ []; answer = none }
+    ∷ refusal (panel (heldTiming .wrap 1 (lobby 40000000 40) ∷ heldTiming .wrap 2 (lobby 40000000 40) ∷ []) [] (held .wrap 2 (called 0 1) ∷ [])) (0x4c ∷ [])
     -- slot numbers that fall
-    ∷ record { given = panel (first 40000000 40) [] (held .wrap 3 (called 0 1) ∷ held .wrap 2 (called 0 1) ∷ []); lent = 0x4c ∷ []; answer = none }
+    ∷ refusal (panel (first 40000000 40) [] (held .wrap 3 (called 0 1) ∷ held .wrap 2 (called 0 1) ∷ [])) (0x4c ∷ [])
     -- a first slot without a timing
-    ∷ record { given = panel [] [] []; lent = []; answer = none }
+    ∷ refusal (panel [] [] []) []
     -- a porch of 1,024
-    ∷ record { given = panel (first 40000000 1024) [] []; lent = []; answer = none }
-    -- a clock of 0, and one that is no multiple of 10,000
-    ∷ record { given = panel (first 0 40) [] []; lent = []; answer = none }
-    ∷ record { given = panel (first 40000001 40) [] []; lent = []; answer = none }
+    ∷ refusal (panel (first 40000000 1024) [] []) []
+    -- a clock of 0
+    ∷ refusal (panel (first 0 40) [] []) []
+    -- a clock that is no multiple of 10,000
+    ∷ refusal (panel (first 40000001 40) [] []) []
     ∷ []
 
 -- ---- how a refusal is computed: from what is read of the canonical block
@@ -141,7 +179,7 @@ module _ (r : StandardRecord) (lent : List ℕ) where
   made = blockOf (shown lent (seen r))
 
   -- a number of what it shows is another
-  unlike : (f : Shown → ℕ) → eqb (f (shown made (plain made))) (f (shown lent (seen r))) ≡ false → Says r lent none
+  unlike : (f : Shown → ℕ) → eqb (f (shown made (plain made))) (f (shown lent (seen r))) ≡ false → NoneGives r lent
   unlike f e = refused-if r lent (λ g. eqb-false _ _ e (ap f (same made r lent g)))
 
   -- it is refused
@@ -149,7 +187,7 @@ module _ (r : StandardRecord) (lent : List ℕ) where
   isAccepted Accepted = true
   isAccepted (Refused f) = false
 
-  unread : isAccepted (verdictOf made) ≡ false → Says r lent none
+  unread : isAccepted (verdictOf made) ≡ false → NoneGives r lent
   unread e = refused-if r lent (λ g. true≢false (sym (ap isAccepted (sym (end-is-verdict made) ∙ g .accepted)) ∙ e))
 
 -- the front porch, and the clock, of the first timing
@@ -184,44 +222,26 @@ bytes-by (x ∷ s) h = go (ltb x 256) refl h (bytes-by s)
     go true e h rest = cons-bytes x s (ltb-true x 256 e) (rest h)
     go false e h rest = absurd (true≢false (sym h))
 
--- ---- the cases
+-- ---- what is written of each
 
-pub all-say : All (λ c. Says (c .given) (c .lent) (c .answer)) cases
-unfolding cases panel specimen seen body frontBytes slotBytes timingBytes filled productIn colorsIn inputOf imageOf gammaOf featuresOf flagsOf standardOf recordOf judged beforeSlots said timingIn acrossOf downOf backPorch tagOf pairOf
-all-say = (
-  (refl, record { bytes = bytes-by specimen refl; accepted = refl; inside = (omega arith, (omega arith, (omega arith, tt))); same = refl }),
-  (
-    unlike _ _ (λ s. length (s .standard)) refl,
-    (
-      (λ b g. omega (arith, g .inside .0)),
-      (
-        unlike _ _ (λ s. letters (s .descriptors)) refl,
-        (
-          unlike _ _ (λ s. length (s .descriptors)) refl,
-          (
-            unlike _ _ (λ s. number (s .descriptors)) refl,
-            (
-              unread _ _ refl,
-              (
-                unlike _ _ (λ s. porch (s .detailed)) refl,
-                (
-                  unread _ _ refl,
-                  (
-                    unlike _ _ (λ s. clock (s .detailed)) refl,
-                    tt,
-                  ),
-                ),
-              ),
-            ),
-          ),
-        ),
-      ),
-    ),
-  ),
-)
+infixr 4 _also_
+_also_ : {P Q : Type 0} → P → Q → P × Q
+p also q = (p, q)
 
--- an output of 127 bytes, whatever the record
-pub of-127 : (r : StandardRecord) (lent before after : List ℕ) (n : ℕ) → length before ≡ 127 → Written r lent before n after → (n ≡ 10) × (after ≡ before)
-of-127 r lent before after n size (wrong-length h e a) = (e, a)
-of-127 r lent before after n size (no-block s h e a) = absurd (omega arith)
-of-127 r lent before after n size (written s g e a) = absurd (omega arith)
+pub all-written : All (λ c. Written (c .given) (c .lent) (c .before) (c .number) (c .after)) cases
+unfolding cases careless careful panel specimen seen body frontBytes slotBytes timingBytes filled productIn colorsIn inputOf imageOf gammaOf featuresOf flagsOf standardOf recordOf judged beforeSlots said timingIn acrossOf downOf backPorch tagOf pairOf closingRefusal pointAt pointOf pointBytes
+all-written =
+    written refl (record { bytes = bytes-by specimen refl; accepted = refl; inside = (omega arith, (omega arith, (omega arith, tt))); same = refl }) refl refl
+    also written refl (record { bytes = bytes-by careful refl; accepted = refl; inside = (omega arith, tt); same = refl }) refl refl
+    also wrong-length (λ e. omega (arith, e)) refl refl
+    also no-block refl (unlike _ _ (λ s. length (s .standard)) refl) refl refl
+    also no-block refl (λ b g. omega (arith, g .inside .0)) refl refl
+    also no-block refl (λ b g. omega (arith, g .inside .0)) refl refl
+    also no-block refl (unlike _ _ (λ s. letters (s .descriptors)) refl) refl refl
+    also no-block refl (unlike _ _ (λ s. length (s .descriptors)) refl) refl refl
+    also no-block refl (unlike _ _ (λ s. number (s .descriptors)) refl) refl refl
+    also no-block refl (unread _ _ refl) refl refl
+    also no-block refl (unlike _ _ (λ s. porch (s .detailed)) refl) refl refl
+    also no-block refl (unread _ _ refl) refl refl
+    also no-block refl (unlike _ _ (λ s. clock (s .detailed)) refl) refl refl
+    also tt

@@ -1,5 +1,5 @@
 -- Laws: the digits of the front that the reading drops are 0.
-use Prim.Native.Nat.{_+_, _*_, _%_, _<_, _≤_}
+use Prim.Native.Nat.{_+_, _*_, _%_, _<_}
 use mathlib.Core.Path.{_≡_}
 use mathlib.Core.Bool.{Bool}
 use native.Mathlib.Omega.{arith}
@@ -7,7 +7,7 @@ use Rattle.bits.specs.Bytes.{_!_}
 use Rattle.bits.specs.Fields.{digits}
 use Rattle.standard_record.specs.declared.VideoInput.the-variants.{Digital}
 use Rattle.standard_record.specs.declared.ImageSize.the-variants as Image
-use Rattle.write_leaf.specs.Digits.{digit-under}
+use Rattle.write_leaf.specs.Bytes.{digit}
 use Rattle.write_head.specs.Head.{makerWord}
 use Rattle.write_head.specs.Front.{Front, frontBytes}
 use Rattle.write_head.specs.Heads.{word-whole}
@@ -25,10 +25,10 @@ module _ (f : Front) where
   unfolding frontBytes
   no-letters = rw (word-whole (makerWord (f .product .maker)) (omega arith)) (omega arith)
 
-  -- digits 1 to 6 of a digital input
-  pub digital-input : (dfp : Bool) → f .display .input ≡ Digital dfp → frontBytes f ! 20 ≤ 129
+  -- a digital input, whole
+  pub digital-input : (dfp : Bool) → f .display .input ≡ Digital dfp → frontBytes f ! 20 ≡ 128 + digit dfp
   unfolding frontBytes
-  digital-input dfp e = rw e (omega (arith, digit-under dfp))
+  digital-input dfp e = rw e
 
   -- both bytes of a size that is not there
   pub no-size : f .display .size ≡ Image.None → (frontBytes f ! 21 ≡ 0) × (frontBytes f ! 22 ≡ 0)

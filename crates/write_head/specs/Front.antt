@@ -28,10 +28,11 @@ pub record Front : Type 0 where
   pub basic : Chromaticities
   pub established : List ℕ
 
+-- here and below, `rest` is what stands behind
 abbrev pub headerBytes : List ℕ → List ℕ
 headerBytes rest = 0x00 ∷ 0xff ∷ 0xff ∷ 0xff ∷ 0xff ∷ 0xff ∷ 0xff ∷ 0x00 ∷ rest
 
--- the year is that of 1990 or later, less 1990
+-- the year is less 1990, modulo 256
 abbrev pub numberBytes : Product → List ℕ → List ℕ
 numberBytes p rest =
     low (p .code) ∷ low (p .code / 256)

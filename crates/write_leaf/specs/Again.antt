@@ -1,13 +1,25 @@
--- Laws: what any bytes are read as, is read from its own bytes; and which lists are bytes.
+-- Laws: one answer of a leaf fits; what any bytes are read as, is read from its own bytes; and which lists are bytes.
 use Prim.Native.Nat.{ℕ, zero, suc, _+_, _<_}
+use mathlib.Core.Path.{_≡_, refl, sym, _∙_, subst}
 use mathlib.Core.List.{List, [], _∷_, _++_}
-use mathlib.Core.Bool.{Bool}
+use mathlib.Core.Bool.{Bool, true, false}
 use native.Mathlib.Omega.{arith}
 use lib.ListN.{take, drop}
 use lib.Seq.{getD-drop}
 use Rattle.bits.specs.Bytes.{part}
 use Rattle.write_leaf.specs.Bytes.{Bytes}
 use Rattle.write_leaf.specs.Leaf.{Writes, Again}
+
+-- where the bytes made of a are bytes, at most one answer fits
+pub one-leaf : {S A : Type 0} {Bytes : S → Type 0} {Reads : S → A → Type 0} {make : A → S} {a : A} {f g : Bool} {s t : S}
+    → Writes Bytes Reads make a f s → Writes Bytes Reads make a g t → Bytes s → (f ≡ g) × (s ≡ t)
+one-leaf {Bytes = Bytes} {Reads} {make} {a} {f} {g} {s} {t} w v b = (go f g w v, w .made ∙ sym (v .made))
+  where
+    go : (f g : Bool) → Writes Bytes Reads make a f s → Writes Bytes Reads make a g t → f ≡ g
+    go true true w v = refl
+    go false false w v = refl
+    go true false w v = sym (v .complete s b (w .sound refl))
+    go false true w v = w .complete s b (subst (λ z. Reads z a) (v .made ∙ sym (w .made)) (v .sound refl))
 
 -- a leaf that is complete and sound, and whose bytes are bytes
 pub again : {S A : Type 0} {Bytes : S → Type 0} {Reads : S → A → Type 0} {make : A → S} {a : A} {fits : Bool} {bytes : S}

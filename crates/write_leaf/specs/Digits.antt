@@ -1,7 +1,7 @@
 -- Fields put together and taken apart again, over any numbers.
 use Prim.Native.Nat.{ℕ, _+_, _*_, _%_, _<_, _≤_}
 use mathlib.Core.Path.{_≡_, refl}
-use mathlib.Core.Bool.{Bool, true, false}
+use mathlib.Core.Bool.{Bool, true, false, _&&_}
 use native.Mathlib.Omega.{arith}
 use lib.Dec.{eqb}
 use borrow.Author.Tests.{eqb-true, eq-eqb}
@@ -77,3 +77,9 @@ four-hold a b c d h =
     let c1 = digit-under c in
     let d1 = digit-under d in
     (digit-true a (omega arith), digit-true b (omega arith), digit-true c (omega arith), digit-true d (omega arith))
+
+-- ---- two tests
+
+pub both-hold : (a b : Bool) → (a && b) ≡ true → (a ≡ true) × (b ≡ true)
+both-hold true b h = (refl, h)
+both-hold false b h = (cc, cc)

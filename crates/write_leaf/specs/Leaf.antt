@@ -3,7 +3,7 @@ use Prim.Native.Nat.{ℕ, _<_}
 use mathlib.Core.Path.{_≡_}
 use mathlib.Core.Bool.{Bool, true}
 
--- `bytes` are those made of a; `fits` is true exactly where any bytes at all are read as a, and then these are
+-- `bytes` is what is made of a, and is read as a where `fits` is true; that is so wherever any s for which Bytes holds is read as a
 pub record Writes {S A : Type 0} (Bytes : S → Type 0) (Reads : S → A → Type 0) (make : A → S) (a : A) (fits : Bool) (bytes : S) : Type 0 where
   pub made : bytes ≡ make a
   pub sound : fits ≡ true → Reads bytes a

@@ -1,5 +1,6 @@
 // What the writer's leaves have in common. A leaf answers with the bytes of a value and with `fits`: whether any bytes at all are read as it.
 ghost use mathlib.Core.Path.{_≡_};
+ghost use mathlib.Core.Bool.{_&&_};
 ghost use Prim.Native.Nat.{_≤_};
 ghost use Rattle.write_leaf.specs.Bytes.{digit};
 
@@ -25,4 +26,10 @@ pub fn digit(b: bool) -> u8
     ensures { λ r. ⌜ (r ≡ digit b) × (r ≤ 1) ⌝ }
 {
     if b { 1 } else { 0 }
+}
+
+pub fn both(a: bool, b: bool) -> bool
+    ensures { λ r. ⌜ r ≡ (a && b) ⌝ }
+{
+    if a { b } else { false }
 }

@@ -1,22 +1,17 @@
-// The next entries of each list that have the number of a slot.
+// The next entry of each list, if it has the number of a slot. It is handed over beside its place and the list's length: no call takes a list.
 use standard_parts::Point;
 use standard_record::Descriptor;
-use standard_record::Descriptors;
 use standard_record::DetailedTiming;
-use standard_record::DetailedTimings;
 use standard_record::Held;
+use standard_record::HeldPair;
 use standard_record::HeldPoint;
 use standard_record::HeldTiming;
-use standard_record::WhitePoints;
 use standard_slots::Points;
-ghost use mathlib.Core.List.{[], _∷_};
 ghost use mathlib.Core.Path.{_≡_};
-ghost use lib.ListN.{take, drop};
-ghost use Rattle.standard_record.specs.Held.{heldPoint, heldTiming, held};
+ghost use Rattle.fixed.specs.Gather.{when};
 ghost use Rattle.standard_slots.specs.Said.{ofPoint};
 ghost use Rattle.standard_slots.specs.Answers.{ofPoints};
-ghost use Rattle.write_pairs.specs.Run.{run};
-ghost use Rattle.write_next.specs.Next.{ofTiming, ofDescriptor};
+ghost use Rattle.write_next.specs.Next.{ofTiming, ofDescriptor, own, twoOf};
 
 pub enum NextTiming {
     None,
@@ -28,12 +23,23 @@ pub enum NextDescriptor {
     Is(Descriptor),
 }
 
-// ---- an entry, if it has the number
-
-fn own_timing(h: HeldTiming, n: u16) -> NextTiming
-    ensures { λ r. ⌜ ofTiming r ≡ run heldTiming n 1 (h ∷ []) ⌝ }
+// Whether the place k is in a list of that length and size, and the entry there has the number n.
+fn own(k: usize, len: usize, size: usize, slot: u16, n: u16) -> bool
+    ensures { λ r. ⌜ r ≡ own k len size slot n ⌝ }
 {
-    if h.slot == n {
+    if k >= len {
+        return false;
+    }
+    if k >= size {
+        return false;
+    }
+    slot == n
+}
+
+pub fn next_timing(h: HeldTiming, k: usize, len: usize, n: u16) -> NextTiming
+    ensures { λ r. ⌜ ofTiming r ≡ when (own k len 4 (h .slot) n) (h .timing) ⌝ }
+{
+    if own(k, len, 4, h.slot, n) {
         let d = h.timing;
         NextTiming::Is(d)
     } else {
@@ -41,10 +47,16 @@ fn own_timing(h: HeldTiming, n: u16) -> NextTiming
     }
 }
 
-fn own_point(h: HeldPoint, n: u16) -> Point
-    ensures { λ r. ⌜ ofPoint r ≡ run heldPoint n 1 (h ∷ []) ⌝ }
+pub fn pair_ahead(h: HeldPair, k: usize, len: usize, n: u16) -> bool
+    ensures { λ r. ⌜ r ≡ own k len 26 (h .slot) n ⌝ }
 {
-    if h.slot == n {
+    own(k, len, 26, h.slot, n)
+}
+
+pub fn next_point(h: HeldPoint, k: usize, len: usize, n: u16) -> Point
+    ensures { λ r. ⌜ ofPoint r ≡ when (own k len 6 (h .slot) n) (h .point) ⌝ }
+{
+    if own(k, len, 6, h.slot, n) {
         let p = h.point;
         Point::Listed(p)
     } else {
@@ -52,70 +64,26 @@ fn own_point(h: HeldPoint, n: u16) -> Point
     }
 }
 
-fn own_descriptor(h: Held, n: u16) -> NextDescriptor
-    ensures { λ r. ⌜ ofDescriptor r ≡ run held n 1 (h ∷ []) ⌝ }
+// The second only behind the first.
+pub fn two_points(p: Point, q: Point) -> Points
+    ensures { λ r. ⌜ ofPoints r ≡ twoOf (ofPoint p) (ofPoint q) ⌝ }
 {
-    if h.slot == n {
+    match p {
+        Point::Skipped => Points::None,
+        Point::Listed(a) => match q {
+            Point::Skipped => Points::One(a),
+            Point::Listed(b) => Points::Two(a, b),
+        },
+    }
+}
+
+pub fn next_descriptor(h: Held, k: usize, len: usize, n: u16) -> NextDescriptor
+    ensures { λ r. ⌜ ofDescriptor r ≡ when (own k len 3 (h .slot) n) (h .descriptor) ⌝ }
+{
+    if own(k, len, 3, h.slot, n) {
         let d = h.descriptor;
         NextDescriptor::Is(d)
     } else {
         NextDescriptor::None
-    }
-}
-
-// ---- the entry at k, if there is one and it has the number
-
-pub fn next_timing(list: DetailedTimings, k: usize, n: u16) -> NextTiming
-    ensures { λ r. ⌜ ofTiming r ≡ run heldTiming n 1 (drop k (take (list .len) (list .items))) ⌝ }
-{
-    let items = list.items;
-    if k >= list.len {
-        return NextTiming::None;
-    }
-    if k >= 4 {
-        return NextTiming::None;
-    }
-    own_timing(items[k], n)
-}
-
-fn next_point(list: WhitePoints, k: usize, n: u16) -> Point
-    ensures { λ r. ⌜ ofPoint r ≡ run heldPoint n 1 (drop k (take (list .len) (list .items))) ⌝ }
-{
-    let items = list.items;
-    if k >= list.len {
-        return Point::Skipped;
-    }
-    if k >= 6 {
-        return Point::Skipped;
-    }
-    own_point(items[k], n)
-}
-
-pub fn next_descriptor(list: Descriptors, k: usize, n: u16) -> NextDescriptor
-    ensures { λ r. ⌜ ofDescriptor r ≡ run held n 1 (drop k (take (list .len) (list .items))) ⌝ }
-{
-    let items = list.items;
-    if k >= list.len {
-        return NextDescriptor::None;
-    }
-    if k >= 3 {
-        return NextDescriptor::None;
-    }
-    own_descriptor(items[k], n)
-}
-
-// Two points at the most.
-pub fn next_points(list: WhitePoints, k: usize, n: u16) -> Points
-    ensures { λ r. ⌜ ofPoints r ≡ run heldPoint n 2 (drop k (take (list .len) (list .items))) ⌝ }
-{
-    if k >= 6 {
-        return Points::None;
-    }
-    match next_point(list, k, n) {
-        Point::Skipped => Points::None,
-        Point::Listed(p) => match next_point(list, k + 1, n) {
-            Point::Skipped => Points::One(p),
-            Point::Listed(q) => Points::Two(p, q),
-        },
     }
 }

@@ -11,6 +11,7 @@ use Rattle.standard_record.specs.Held.{heldPair}
 use Rattle.standard_record.specs.declared.HeldPair.{HeldPair}
 use Rattle.standard_record.specs.declared.StandardTiming.{StandardTiming}
 use Rattle.standard_record.specs.declared.StandardTimings.{StandardTimings}
+use Rattle.write_leaf.specs.Digits.{both-hold}
 use Rattle.write_parts.specs.Pair.{pairLow, pairHigh, WritesPair}
 use Rattle.write_pairs.specs.Run.{run, Other, run-more, run-stops}
 use Rattle.write_pairs.specs.Pairs.{pairsBytes, most, pairsAhead, All, ReadFrom, Back, WritesPairs}
@@ -31,10 +32,6 @@ more-bytes (suc n) (q ∷ ps) p h =
     let e : 2 * suc (length ps) ≡ suc (suc (2 * length ps)) = omega arith in
     let f : suc (suc (2 * length ps)) + 1 ≡ suc (suc (2 * length ps + 1)) = omega arith in
     rw (e, f) (ap (λ t. pairLow q ∷ pairHigh q ∷ t) (more-bytes n ps p (omega arith)))
-
-both-hold : (a b : Bool) → (a && b) ≡ true → (a ≡ true) × (b ≡ true)
-both-hold true b h = (refl, h)
-both-hold false b h = (cc, cc)
 
 pub is-not : (b : Bool) → not b ≡ true → b ≡ false
 is-not true h = sym h

@@ -1,6 +1,7 @@
--- Laws: packed pairs are read as the list, and what is read has bytes.
+-- Laws: packed pairs are read as the list, what is read has bytes, and one answer fits.
 use Prim.Native.Nat.{ℕ, zero, suc, _+_, _*_, _<_, _≤_}
 use mathlib.Core.Path.{_≡_, refl, sym, ap, ap₂, _∙_}
+use mathlib.Core.Bool.{Bool, true, false}
 use mathlib.Core.List.{List, [], _∷_, _++_, append-assoc, append-nil}
 use native.Mathlib.Omega.{arith}
 use lib.ListN.{length}
@@ -11,7 +12,9 @@ use Rattle.standard_parts.specs.declared.Pair.{Pair}
 use Rattle.standard_parts.specs.declared.Pair.the-variants.{Listed, Skipped}
 use Rattle.standard_slots.specs.Said.{ofPair, pairAt, pairsAt}
 use Rattle.write_leaf.specs.Bytes.{Bytes}
-use Rattle.write_pairs.specs.Pairs.{pairsBytes, All, ReadFrom, Back}
+use Rattle.write_parts.specs.Pair.{pairLow, pairHigh}
+use Rattle.write_parts.specs.Again.{pair-are-bytes}
+use Rattle.write_pairs.specs.Pairs.{pairsBytes, All, ReadFrom, Back, WritesPairs}
 
 -- ---- read back
 
@@ -61,3 +64,20 @@ pub all-read : (s : List ℕ) → Bytes s → (k n : ℕ) → All ReadFrom (pair
 all-read s h k zero = tt
 all-read s h k (suc n) =
     all-append ReadFrom (pairsAt s k n) (pairAt s (k + 2 * n)) (all-read s h k n) (one-read _ _ (h (k + 2 * n)) (h (k + 2 * n + 1)) _ refl)
+
+-- ---- one answer
+
+own-bytes : (ps : List StandardTiming) → All Back ps → All ReadFrom ps
+own-bytes [] h = tt
+own-bytes (p ∷ ps) h =
+    let b = pair-are-bytes p in
+    (record { first = pairLow p; second = pairHigh p; first-is-byte = b .0; second-is-byte = b .1; read = h .0 }, own-bytes ps (h .1))
+
+pub one-pairs : {ps : List StandardTiming} {f g : Bool} {s t : List ℕ} {m n : ℕ} → WritesPairs ps f s m → WritesPairs ps g t n → (f ≡ g) × (s ≡ t) × (m ≡ n)
+one-pairs {ps} {f} {g} {s} {t} {m} {n} w v = (go f g w v, w .made ∙ sym (v .made), w .count ∙ sym (v .count))
+  where
+    go : (f g : Bool) → WritesPairs ps f s m → WritesPairs ps g t n → f ≡ g
+    go true true w v = refl
+    go false false w v = refl
+    go true false w v = sym (v .complete (own-bytes ps (w .sound refl)))
+    go false true w v = w .complete (own-bytes ps (v .sound refl))

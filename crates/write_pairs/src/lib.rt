@@ -34,12 +34,6 @@ fn least(n: usize) -> usize
     if n < 26 { n } else { 26 }
 }
 
-fn both(a: bool, b: bool) -> bool
-    ensures { λ r. ⌜ r ≡ (a && b) ⌝ }
-{
-    if a { b } else { false }
-}
-
 // The bytes of an entry, and whether it has another number.
 fn held_bytes(held: HeldPair, number: u16) -> HeldBytes
     ensures { λ r. ⌜ (r .other ≡ not (eqb (held .slot) number)) × WritesPair (held .pair) (r .fits) (r .first, r .second) ⌝ }
@@ -74,7 +68,7 @@ pub fn pairs_bytes(list: StandardTimings, from: usize, number: u16) -> PairsByte
         }
         bytes[2 * many] = w.first;
         bytes[2 * many + 1] = w.second;
-        fits = both(fits, w.fits);
+        fits = write_leaf::both(fits, w.fits);
         many += 1;
         k += 1;
     }

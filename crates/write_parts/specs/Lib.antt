@@ -6,4 +6,3 @@ pub mod Pairs
 pub mod Points
 pub mod Texts
 pub mod Again
-pub mod Dropped

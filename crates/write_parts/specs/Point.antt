@@ -16,6 +16,7 @@ use Rattle.write_leaf.specs.Leaf.{Writes, WritesByte}
 
 -- ---- gamma
 
+-- less 100, modulo 256
 abbrev pub gammaByte : Gamma → ℕ
 gammaByte Gamma.None = 0xff
 gammaByte (Gamma.Some g) = (g + 156) % 256

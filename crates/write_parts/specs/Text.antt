@@ -1,4 +1,4 @@
--- The 13 bytes of a text: the text, then 0x0a, then spaces.
+-- The 13 bytes of a text: the text, and behind a shorter one 0x0a, then spaces.
 use Prim.Native.Nat.{ℕ, zero, suc, _+_}
 use mathlib.Core.Path.{_≡_}
 use mathlib.Core.Bool.{Bool, true, cond}

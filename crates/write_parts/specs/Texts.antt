@@ -1,13 +1,14 @@
--- Laws: a text is read from its bytes where the test is passed, and it is passed where any bytes are read as the text.
-use Prim.Native.Nat.{ℕ, zero, suc, _≤_}
+-- Laws: a text is read from its bytes where the test is passed, and it is passed where any bytes are read as the text; and the spaces behind it.
+use Prim.Native.Nat.{ℕ, zero, suc, _<_, _≤_}
 use mathlib.Core.Path.{_≡_, refl, ap}
 use mathlib.Core.Bool.{Bool, true, false, cond}
 use mathlib.Core.List.{List, [], _∷_}
 use native.Mathlib.Numerals.{add-one}
 use native.Mathlib.Omega.{arith}
 use lib.Dec.{eqb, leb}
-use lib.ListN.{length, take, drop, replicate, length-take, length-replicate}
+use lib.ListN.{length, take, drop, replicate, length-take, length-replicate, getD-replicate}
 use borrow.Author.Tests.{eqb-true, eq-eqb, le-leb, leb-true}
+use Rattle.bits.specs.Bytes.{_!_}
 use Rattle.standard_parts.specs.Text.{textLength, spacesOr}
 use Rattle.write_leaf.specs.Digits.{two-hold}
 use Rattle.write_parts.specs.Text.{filled, textBytes, ReadsText, WritesText, textFits}
@@ -18,7 +19,7 @@ spaces : (n : ℕ) → spacesOr 0x00 (replicate n 0x20) ≡ true
 spaces zero = refl
 spaces (suc n) = spaces n
 
-filled-length : (n : ℕ) (text : List ℕ) → length (filled n text) ≡ n
+pub filled-length : (n : ℕ) (text : List ℕ) → length (filled n text) ≡ n
 unfolding filled
 filled-length zero text = refl
 filled-length (suc n) [] = ap suc (length-replicate n 0x20)
@@ -71,3 +72,12 @@ complete text t r =
 
 pub writes-text : (text : List ℕ) → WritesText text (textFits text) (textBytes text)
 writes-text text = record { made = refl; sound = sound text; complete = λ t b r. complete text t r }
+
+-- ---- behind the 0x0a
+
+pub padding : (n : ℕ) (text : List ℕ) (k : ℕ) → length text < k → k < n → filled n text ! k ≡ 0x20
+unfolding filled
+padding zero text k h l = absurd (omega arith)
+padding (suc n) text zero h l = absurd (omega arith)
+padding (suc n) [] (suc k) h l = getD-replicate n k 0x20 0 (omega arith)
+padding (suc n) (x ∷ text) (suc k) h l = padding n text k (omega arith) (omega arith)

@@ -1,9 +1,9 @@
 -- The bytes of an array or of a run, one by one. Assumes nothing.
 use Prim.Native.Nat.{ℕ, zero, suc, _≤_}
 use mathlib.Core.Path.{_≡_, refl, ap, _∙_}
-use mathlib.Core.List.{List, [], _∷_}
+use mathlib.Core.List.{List, [], _∷_, _++_}
 use native.Mathlib.Omega.{arith}
-use lib.ListN.{length}
+use lib.ListN.{length, take}
 use Rattle.bits.specs.Bytes.{_!_}
 use Rattle.fixed.specs.Fixed.{pad}
 use Rattle.write_slots.specs.Runs.{pad-whole}
@@ -31,3 +31,9 @@ pad-again (suc n) (suc m) (x ∷ l) h = ap (λ l. x ∷ l) (pad-again n m l (ome
 -- the first seven of 13
 pub gets-seven : (b l : List ℕ) → b ≡ pad 13 0 l → gets 7 (λ k. b ! k) ≡ pad 7 0 l
 gets-seven b l e = gets-pad 7 b ∙ ap (pad 7 0) e ∙ pad-again 7 13 l (omega arith)
+
+-- the first n, where there are as many, before others
+pub gets-take : (n : ℕ) (l s : List ℕ) → n ≤ length l → gets n (λ k. l ! k) ++ s ≡ take n l ++ s
+gets-take zero l s h = refl
+gets-take (suc n) [] s h = absurd (omega arith)
+gets-take (suc n) (x ∷ l) s h = ap (λ t. x ∷ t) (gets-take n l s (omega arith))

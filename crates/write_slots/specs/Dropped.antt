@@ -1,16 +1,18 @@
--- Laws: the bytes of a slot that the reading drops are 0.
-use Prim.Native.Nat.{ℕ, zero, suc, _<_}
-use mathlib.Core.Path.{_≡_, refl}
+-- Laws: what the reading drops of a slot, or does not tell from another, is fixed.
+use Prim.Native.Nat.{ℕ, _+_, _<_}
+use mathlib.Core.Path.{_≡_, refl, _∙_}
 use mathlib.Core.List.{List, [], _∷_}
 use native.Mathlib.Omega.{arith}
-use lib.ListN.{replicate}
+use lib.ListN.{length, replicate}
+use lib.Seq.{getD-append-add}
 use Rattle.bits.specs.Bytes.{_!_, part}
 use Rattle.standard_record.specs.declared.StandardTiming.{StandardTiming}
 use Rattle.standard_record.specs.declared.WhitePoint.{WhitePoint}
-use Rattle.standard_record.specs.declared.Limits.{Limits}
 use Rattle.write_parts.specs.Point.{pointBytes}
-use Rattle.write_slots.specs.Words.{gtf, Words, serial, text, range, name, undefined, makerDefined}
-use Rattle.write_slots.specs.Slot.{descriptorBytes, slotBytes}
+use Rattle.write_parts.specs.Text.{textBytes}
+use Rattle.write_parts.specs.Texts.{padding}
+use Rattle.write_slots.specs.Words.{Words, serial, text, range, name, undefined, makerDefined}
+use Rattle.write_slots.specs.Slot.{tagged, slotBytes}
 
 -- around the tag of a slot that holds no timing
 pub beside-tag : (ps : List StandardTiming) (ws : List WhitePoint) (ds : List Words) → (slotBytes [] ps ws ds ! 2 ≡ 0) × (slotBytes [] ps ws ds ! 4 ≡ 0)
@@ -25,20 +27,10 @@ beside-tag [] [] (undefined tag t ∷ ds) = (refl, refl)
 beside-tag [] [] (makerDefined tag t ∷ ds) = (refl, refl)
 beside-tag [] [] [] = (refl, refl)
 
-zeros : (n i : ℕ) → replicate n 0 ! i ≡ 0
-zeros zero i = refl
-zeros (suc n) zero = refl
-zeros (suc n) (suc i) = zeros n i
-
--- all but the tag of a slot without entries
-pub unused-slot : (i : ℕ) → (i ≡ 3 → ⊥) → slotBytes [] [] [] [] ! i ≡ 0
+-- a slot without entries, whole
+pub unused-slot : slotBytes [] [] [] [] ≡ tagged 0x10 (replicate 13 0)
 unfolding slotBytes
-unused-slot zero h = refl
-unused-slot (suc zero) h = refl
-unused-slot (suc (suc zero)) h = refl
-unused-slot (suc (suc (suc zero))) h = absurd (h refl)
-unused-slot (suc (suc (suc (suc zero)))) h = refl
-unused-slot (suc (suc (suc (suc (suc i))))) h = zeros 13 i
+unused-slot = refl
 
 -- the upper four digits of the second byte of each white point
 pub point-digits : (w : WhitePoint) (ws : List WhitePoint) (ds : List Words) → (slotBytes [] [] (w ∷ ws) ds ! 6 < 16) × (slotBytes [] [] (w ∷ ws) ds ! 11 < 16)
@@ -51,6 +43,17 @@ pub unused-point : (w : WhitePoint) (ds : List Words) → part (slotBytes [] [] 
 unfolding slotBytes pointBytes
 unused-point w ds = refl
 
--- the byte before a secondary timing's own
-pub before-gtf : (l : Limits) (start c m k j : ℕ) → descriptorBytes (range l (gtf start c m k j)) ! 11 ≡ 0
-before-gtf l start c m k j = refl
+-- ---- the padding of a text
+
+-- the text of a serial number, a text or a name
+pub data HasText : Words → List ℕ → Type 0 where
+  of-serial : {t : List ℕ} → HasText (serial t) t
+  of-text : {t : List ℕ} → HasText (text t) t
+  of-name : {t : List ℕ} → HasText (name t) t
+
+-- byte k of the 13, behind the 0x0a
+pub padded : {w : Words} {t : List ℕ} → HasText w t → (ds : List Words) (k : ℕ) → length t < k → k < 13 → slotBytes [] [] [] (w ∷ ds) ! (5 + k) ≡ 0x20
+unfolding slotBytes
+padded {t = t} of-serial ds k h l = getD-append-add (0 ∷ 0 ∷ 0 ∷ 0xff ∷ 0 ∷ []) (textBytes t) k 0 ∙ padding 13 t k h l
+padded {t = t} of-text ds k h l = getD-append-add (0 ∷ 0 ∷ 0 ∷ 0xfe ∷ 0 ∷ []) (textBytes t) k 0 ∙ padding 13 t k h l
+padded {t = t} of-name ds k h l = getD-append-add (0 ∷ 0 ∷ 0 ∷ 0xfc ∷ 0 ∷ []) (textBytes t) k 0 ∙ padding 13 t k h l

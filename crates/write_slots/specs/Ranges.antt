@@ -14,11 +14,12 @@ use Rattle.standard_record.specs.declared.Limits.{Limits}
 use Rattle.standard_record.specs.declared.SecondaryTiming.{SecondaryTiming}
 use Rattle.standard_record.specs.declared.Descriptor.{Descriptor}
 use Rattle.standard_parts.specs.Descriptors.{limitsOf, secondaryOf, closingRefusal, rangeRefusal}
+use Rattle.standard_slots.specs.Spans.{SoundSecond}
 use Rattle.standard_slots.specs.Said.{rangeIn, said}
 use Rattle.write_leaf.specs.Bytes.{Bytes, low}
 use Rattle.write_leaf.specs.Digits.{three-hold, four-hold}
 use Rattle.write_leaf.specs.Every.{both}
-use Rattle.write_slots.specs.Words.{Secondary, none, gtf, other, range, bytesOf, secondary, words, SecondaryInside}
+use Rattle.write_slots.specs.Words.{Secondary, none, gtf, other, range, bytesOf, secondary, words}
 use Rattle.write_slots.specs.Slot.{tagged, limitsBytes, secondaryBytes}
 use Rattle.write_slots.specs.Writes.{WritesDescriptor}
 use Rattle.write_slots.specs.Tests.{exact, counted, secondaryFits, rangeFits}
@@ -72,7 +73,7 @@ unfolding said tagOf rangeRefusal rangeIn secondaryOf
 other-shown l kind run h k e = rw (pad-whole 7 run e, h, k, take-all 7 run (omega arith))
 
 secondary-shown : (lent : List ℕ) (l : Limits) (s : SecondaryTiming) → secondaryFits s (length lent) ≡ true
-    → SecondaryInside s (length lent) × Shown (slot l (secondary lent s)) (range (again l) (secondary lent s))
+    → SoundSecond s (length lent) × Shown (slot l (secondary lent s)) (range (again l) (secondary lent s))
 secondary-shown lent l SecondaryTiming.None h = (tt, none-shown l)
 secondary-shown lent l (SecondaryTiming.GTF start c m k j) h =
     let p = both (ltb m 65536) (counted 2000 start) h in
@@ -104,7 +105,7 @@ other-back t kind b12 b13 b14 b15 b16 b17 false true n run e = (cc, cc, cc, cc)
 other-back t kind b12 b13 b14 b15 b16 b17 false false n run e = (refl, refl, cc, cc)
 
 module _ (lent t : List ℕ) (size : length t ≡ 18) (b : Bytes t) where
-  secondary-fits : (s : SecondaryTiming) → SecondaryInside s (length lent)
+  secondary-fits : (s : SecondaryTiming) → SoundSecond s (length lent)
       → secondary t (secondaryOf (t ! 10) (t ! 12) (t ! 13) (t ! 14) (t ! 15) (t ! 16) (t ! 17) (record { start = 11; len = 7 })) ≡ secondary lent s
       → secondaryFits s (length lent) ≡ true
   unfolding secondaryOf
@@ -118,7 +119,7 @@ module _ (lent t : List ℕ) (size : length t ≡ 18) (b : Bytes t) where
       let z : length (part t 11 7) ≡ 7 = simp (length-take, length-drop) (omega arith) in
       rw (← q .2, q .0, q .1, is-exact 7 s lent h (ap length (sym (q .3)) ∙ z))
 
-  range-fits : (l : Limits) (s : SecondaryTiming) → SecondaryInside s (length lent) → words t (rangeIn t 0) ≡ range l (secondary lent s)
+  range-fits : (l : Limits) (s : SecondaryTiming) → SoundSecond s (length lent) → words t (rangeIn t 0) ≡ range l (secondary lent s)
       → rangeFits l s (length lent) ≡ true
   unfolding rangeIn
   range-fits l s h e =

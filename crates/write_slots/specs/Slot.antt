@@ -1,4 +1,4 @@
--- The 18 bytes of a slot, from what it is to show: the canonical ones.
+-- The 18 bytes of a slot, from what it is to show: the canonical ones. Where no block shows it, it is no matter what stands here.
 use Prim.Native.Nat.{ℕ, zero, suc, _/_}
 use mathlib.Core.List.{List, [], _∷_, _++_}
 use lib.ListN.{replicate}

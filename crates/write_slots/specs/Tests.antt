@@ -1,4 +1,4 @@
--- What the private functions of `write_slots` answer: the tests that the code makes.
+-- What the private functions of `write_slots` answer: the tests that the code makes, and m < 65536, which the code has from m's type.
 use Prim.Native.Nat.{ℕ, _+_, _*_, _/_}
 use mathlib.Core.Bool.{Bool, true, false, cond, not}
 use mathlib.Core.List.{List, [], _∷_}

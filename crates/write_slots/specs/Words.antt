@@ -10,6 +10,7 @@ use Rattle.standard_record.specs.declared.WhitePoint.{WhitePoint}
 use Rattle.standard_record.specs.declared.Limits.{Limits}
 use Rattle.standard_record.specs.declared.SecondaryTiming.{SecondaryTiming}
 use Rattle.standard_record.specs.declared.Descriptor.{Descriptor}
+use Rattle.standard_slots.specs.Spans.{SoundSecond}
 use Rattle.standard_slots.specs.Said.{Said, refusal, nothing, timing, pairs, points, described}
 
 -- ---- a descriptor, with bytes for its spans
@@ -45,15 +46,10 @@ words s (Descriptor.Undefined tag t) = undefined tag (bytesOf s t)
 words s (Descriptor.MakerDefined tag t) = makerDefined tag (bytesOf s t)
 
 -- its span, if it has one, ends by the place n
-abbrev pub SecondaryInside : SecondaryTiming → ℕ → Type 0
-SecondaryInside SecondaryTiming.None n = Unit
-SecondaryInside (SecondaryTiming.GTF start c m k j) n = Unit
-SecondaryInside (SecondaryTiming.Other kind t) n = Inside t n
-
 abbrev pub SpanInside : Descriptor → ℕ → Type 0
 SpanInside (Descriptor.Serial t) n = Inside t n
 SpanInside (Descriptor.Text t) n = Inside t n
-SpanInside (Descriptor.Range l t) n = SecondaryInside t n
+SpanInside (Descriptor.Range l t) n = SoundSecond t n
 SpanInside (Descriptor.Name t) n = Inside t n
 SpanInside (Descriptor.Undefined tag t) n = Inside t n
 SpanInside (Descriptor.MakerDefined tag t) n = Inside t n

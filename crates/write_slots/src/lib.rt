@@ -1,14 +1,15 @@
-// The 18 bytes of a slot that holds no timing and no pairs: white points, or a descriptor, the bytes of whose span are lent.
+// The 18 bytes of a slot that holds no timing: pairs, white points, or a descriptor, the bytes of whose span are lent.
 use standard_record::Descriptor;
 use standard_record::Limits;
 use standard_record::SecondaryTiming;
 use standard_slots::Points;
 use steps::Span;
 use write_leaf::SlotBytes;
+use write_pairs::PairsBytes;
 use write_parts::PointBytes;
 ghost use mathlib.Core.Path.{_≡_};
-ghost use mathlib.Core.List.{_++_};
-ghost use lib.ListN.{length};
+ghost use mathlib.Core.List.{[], _∷_, _++_};
+ghost use lib.ListN.{length, take};
 ghost use Rattle.fixed.specs.Fixed.{pad};
 ghost use Rattle.write_slots.specs.Slot.{tagged, limitsBytes, secondaryBytes};
 ghost use Rattle.write_slots.specs.Writes.{WritesPoints, WritesDescriptor};
@@ -112,6 +113,37 @@ pub fn points_bytes(ps: Points) -> SlotBytes
             points_rest(write_parts::point_bytes(p), write_parts::point_bytes(q)),
         ),
     }
+}
+
+// ---- pairs
+
+// The first six of the pairs, then 0x0a.
+pub fn six_bytes(pairs: PairsBytes) -> SlotBytes
+    ensures { λ r. ⌜ (r .fits ≡ pairs .fits) × (r .bytes ≡ tagged 0xfa (take 12 (pairs .bytes) ++ 0x0a ∷ [])) ⌝ }
+{
+    let b = pairs.bytes;
+    let bytes = [
+        b[0],
+        b[1],
+        b[2],
+        b[3],
+        b[4],
+        b[5],
+        b[6],
+        b[7],
+        b[8],
+        b[9],
+        b[10],
+        b[11],
+        0x0a,
+    ];
+    tagged(
+        0xfa,
+        Rest {
+            fits: pairs.fits,
+            bytes,
+        },
+    )
 }
 
 // ---- the spans of a descriptor

@@ -69,7 +69,7 @@ timingBytes d =
     ∷ low (d .size .width) ∷ low (d .size .height) ∷ uppers (d .size .width) (d .size .height)
     ∷ low (d .border .across .0) ∷ low (d .border .down .0) ∷ lastOf (d .interlaced) (d .stereo) (d .sync) ∷ []
 
--- 18 bytes with a clock that are read as d
+-- bytes with a clock that are read as d
 pub record Reads (t : List ℕ) (d : DetailedTiming) : Type 0 where
   pub clock : 0 < clockIn t
   pub is : timingIn t ≡ Timed.Is d

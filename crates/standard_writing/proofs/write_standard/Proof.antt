@@ -1,11 +1,9 @@
 -- `standard_writing::write_standard` meets its contract: each answer by its test. Assumes nothing.
-use mathlib.Core.Path.{_≡_, refl}
+use mathlib.Core.Path.{refl}
 use native.Mathlib.Omega.{arith}
 use denote.Ref.{now}
-use lib.ListN.{length}
 use borrow.Author.Needs.{needs}
-use Rattle.bits.specs.Bytes.{_!_}
-use Rattle.write_block.specs.Gives.{Written, wrong-length}
+use Rattle.write_block.specs.Gives.{wrong-length}
 use Rattle.standard_writing.proofs.Laws.{done, not-done}
 use Rattle.standard_writing.proofs.write_standard.Statement.{statement}
 use Rattle.standard_writing.proofs.write_standard.Tie as tie

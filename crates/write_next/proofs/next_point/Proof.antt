@@ -1,38 +1,14 @@
--- `write_next::next_point` meets its contract: the list ends before k, or its entry there decides. Assumes nothing.
-use mathlib.Core.Path.{_≡_, sym, _∙_}
-use native.Mathlib.Omega.{arith}
-use lib.ListN.{length, length-map, length-take}
+-- `write_next::next_point` meets its contract: each arm by its test. Assumes nothing.
+use mathlib.Core.Path.{sym, _∙_}
 use borrow.Author.Needs.{needs}
-use Rattle.standard_record.specs.Held.{heldPoint}
-use Rattle.write_next.proofs.Laws.{ended, at-k}
 use Rattle.write_next.proofs.next_point.Statement.{statement}
 use Rattle.write_next.proofs.next_point.Tie as tie
 
-size : (s : tie.Start) → length (s .args .list .items) ≡ 6
-size s = simp length-map at (s .good .0 .1 .1 .0 .1 .0 .1)
-
 returns : tie.Need-returns
-returns c =
-    let s = c .before .before .before in
-    sym (ended heldPoint _ (s .args .list .items) (s .args .list .len) (s .args .k) 1 (omega (arith, length-take (s .args .list .len) (s .args .list .items))))
+returns c = let o = c .before .before in rw (sym (o .own .ensures) ∙ c .before .if1 .taken)
 
 returns-2 : tie.Need-returns-2
-returns-2 c =
-    let s = c .before .before .before .before in
-    sym (ended heldPoint _ (s .args .list .items) (s .args .list .len) (s .args .k) 1 (omega (arith, length-take (s .args .list .len) (s .args .list .items), size s)))
-
-returns-3 : tie.Need-returns-3
-returns-3 c =
-    let s = c .before .before .before .before .before .before in
-    c .own-point .ensures ∙ sym (at-k heldPoint _ (s .args .list .items) (s .args .list .len) (s .args .k) _ (omega arith) (omega (arith, size s)))
+returns-2 c = let o = c .before in rw (sym (o .own .ensures) ∙ c .if1 .left)
 
 pub next-point-spec : {M : Type 1} → statement M
-next-point-spec =
-    tie.close
-    (tie.spec
-    returns
-    returns-2
-    (search needs)
-    (search needs)
-    (search needs)
-    returns-3)
+next-point-spec = tie.close (tie.spec (search needs) returns returns-2)

@@ -1,2 +1,0 @@
--- The laws that the proofs of `write_next` cite.
-pub mod Laws
