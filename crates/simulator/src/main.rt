@@ -1,32 +1,49 @@
-// For the simulator's people, to copy from: a record is taken from a block, one porch of it is changed, and it is written to a block again.
-// Printed are the timing before, what the writer answered, the timing that the new block holds, and the new block.
+// For the simulator's people, to copy from: a record is read from a block, its picture is moved, its name changed, and it is written to a block again;
+// then two records that are refused. Printed are the timing before, and of each writing the answer and the output, of the first the new timing too.
+use standard_record::Descriptor;
+use standard_record::Held;
+use standard_record::HeldPair;
+use standard_record::Ratio;
 use standard_record::StandardRecord;
+use standard_record::StandardTiming;
+use steps::Span;
 
 fn main() {
-    // A panel of 800 by 600 with the name LOBBY: docs/specimen.bin, two lines of its head, one of pairs, one for each slot.
-    let panel = b"\
+    // A panel of 800 by 600 with the name LOBBY: docs/specimen.bin, two lines of its head, one of pairs, one for each slot. Behind it another name.
+    let lent = b"\
         \x00\xff\xff\xff\xff\xff\xff\x00\x04\x43\x34\x12\x01\x00\x00\x00\x0a\x1e\x01\x03\
         \x81\x20\x12\x64\x0a\x00\x00\x80\x40\x80\x40\x80\x40\x80\x40\x01\x08\x80\
         \x81\x80\x01\x01\x01\x01\x01\x01\x01\x01\x01\x01\x01\x01\x01\x01\
         \xa0\x0f\x20\x00\x31\x58\x1c\x20\x28\x80\x14\x00\x40\xb4\x10\x00\x00\x1e\
         \x00\x00\x00\xfc\x00LOBBY\x0a\x20\x20\x20\x20\x20\x20\x20\
         \x00\x00\x00\x00\x00\x00\x00\x00\x00\x00\x00\x00\x00\x00\x00\x00\x00\x00\
-        \x00\x00\x00\x00\x00\x00\x00\x00\x00\x00\x00\x00\x00\x00\x00\x00\x00\x00\x00\xc3";
-    let before = standard_reading::read_standard(panel).edid;
-    // The answer is 0, or 11 for a record that no block gives, and then `block` stays as it is. The texts of a record are spans: the bytes that
-    // they point into are lent beside it.
-    let mut block = [0u8; 128];
-    let answer = standard_writing::write_standard(further_left(before), panel, &mut block);
-    let after = standard_reading::read_standard(&block).edid;
+        \x00\x00\x00\x00\x00\x00\x00\x00\x00\x00\x00\x00\x00\x00\x00\x00\x00\x00\x00\xc3\
+        UPPER DECK";
+    let before = standard_reading::read_standard(bits::part(lent, 0, 128)).edid;
     let mut out = [0u8; 4096];
     let mut n = standard_slot_lines::detailed_lines(&mut out, 0, before.timings.detailed);
-    n = page::bytes(&mut out, n, b"answer");
-    n = page::field8(&mut out, n, answer);
-    n = page::newline(&mut out, n);
+    // The texts of a record are spans: the bytes that they point into are lent beside it, here all of them.
+    let mut block = [0u8; 128];
+    let answer = standard_writing::write_standard(renamed(further_left(before)), lent, &mut block);
+    n = tell(&mut out, n, answer, &block);
+    let after = standard_reading::read_standard(&block).edid;
     n = standard_slot_lines::detailed_lines(&mut out, n, after.timings.detailed);
-    n = page::hex_span(&mut out, n, &block, 0, 128);
-    n = page::newline(&mut out, n);
+    // An output that is not 128 bytes long is refused with 10, a record that no block gives with 11; the output stays as it was.
+    let mut short = [0x55u8; 127];
+    let ten = standard_writing::write_standard(before, lent, &mut short);
+    n = tell(&mut out, n, ten, &short);
+    let mut kept = [0x55u8; 128];
+    let eleven = standard_writing::write_standard(unwritable(before), lent, &mut kept);
+    n = tell(&mut out, n, eleven, &kept);
     io::write_all(1, frames::start(&out, n));
+}
+
+fn tell(out: &mut [u8; 4096], at: usize, answer: u8, block: &[u8]) -> usize {
+    let mut n = page::bytes(out, at, b"answer");
+    n = page::field8(out, n, answer);
+    n = page::newline(out, n);
+    n = page::hex_span(out, n, block, 0, block.len());
+    page::newline(out, n)
 }
 
 // The picture of the first timing eight pixels further left: its front porch is eight more, its back porch eight fewer. What lies deep in a
@@ -47,6 +64,46 @@ fn further_left(r: StandardRecord) -> StandardRecord {
     items[0] = held;
     detailed.items = items;
     timings.detailed = detailed;
+    let mut edid = r;
+    edid.timings = timings;
+    edid
+}
+
+// Slot 2, the first with a descriptor, holds a name, and it shows the ten bytes behind the block.
+fn renamed(r: StandardRecord) -> StandardRecord {
+    let mut descriptors = r.descriptors;
+    let mut items = descriptors.items;
+    items[0] = Held {
+        descriptor: Descriptor::Name(Span {
+            start: 128,
+            len: 10,
+        }),
+        slot: 2,
+    };
+    descriptors.items = items;
+    let mut edid = r;
+    edid.descriptors = descriptors;
+    edid
+}
+
+// The first pair is 256 wide, 16:10 at 61 Hz: its bytes would be 01 01, which stand for none.
+fn unwritable(r: StandardRecord) -> StandardRecord {
+    let mut timings = r.timings;
+    let mut standard = timings.standard;
+    let mut items = standard.items;
+    items[0] = HeldPair {
+        pair: StandardTiming {
+            width: 256,
+            ratio: Ratio {
+                width: 16,
+                height: 10,
+            },
+            rate: 61,
+        },
+        slot: 0,
+    };
+    standard.items = items;
+    timings.standard = standard;
     let mut edid = r;
     edid.timings = timings;
     edid

@@ -195,8 +195,8 @@ fn timing_first(r: StandardRecord) -> bool
     }
 }
 
-// The four slots, behind the pairs that are used up; whether every entry fits and none is left. The lists are local arrays: no call takes one, but
-// where a slot holds pairs.
+// The four slots, behind the pairs that are used up; whether every entry fits and none is left. The lists are local arrays: in the loop no call takes
+// one, but where a slot holds pairs.
 fn fill_slots(block: &mut [u8], r: StandardRecord, lent: &[u8], listed: usize) -> bool
     requires { ⌜ (length (now block) ≡ 128) × (listed ≡ length (eight (seen r))) ⌝ }
     ensures { λ t. ⌜ SlotsFit r (now (lent .entry)) t × (length (now (block .exit)) ≡ 128) × (take 126 (now (block .exit)) ≡ take 54 (now (block .entry)) ++ gather (λ i. slotFrom (now (lent .entry)) (taken (seen r) i)) 4) ⌝ }

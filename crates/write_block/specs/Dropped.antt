@@ -5,6 +5,7 @@ use mathlib.Core.Bool.{Bool}
 use mathlib.Core.List.{List, [], _∷_}
 use native.Mathlib.Omega.{arith}
 use lib.ListN.{length, replicate}
+use lib.Seq.{take-at}
 use Rattle.bits.specs.Bytes.{_!_, part}
 use Rattle.bits.specs.Fields.{digits}
 use Rattle.fixed.specs.Numbered.{numbered}
@@ -20,15 +21,17 @@ use Rattle.standard_record.specs.declared.ImageSize.the-variants as Image
 use Rattle.standard_reading.specs.Slots.{start}
 use Rattle.write_leaf.specs.Bytes.{digit}
 use Rattle.write_timing.specs.Dropped.{no-stereo}
+use Rattle.write_pairs.specs.Pairs.{pairsBytes}
 use Rattle.write_slots.specs.Words.{Words}
 use Rattle.write_slots.specs.Slot.{tagged, slotBytes}
 use Rattle.write_slots.specs.Dropped.{beside-tag, unused-slot, point-digits, unused-point, HasText, padded}
 use Rattle.write_head.specs.Front.{frontBytes}
 use Rattle.write_head.specs.Dropped.{before-letters, no-letters, digital-input, no-size, behind-flags}
 use Rattle.write_block.specs.Shown.{Shown, shown, worded}
-use Rattle.write_block.specs.Canonical.{body, blockOf}
+use Rattle.write_block.specs.Canonical.{eightOf, body, blockOf}
 use Rattle.write_block.specs.Gives.{Written}
-use Rattle.write_block.specs.Every.{canonical-slot, slot-byte}
+use Rattle.write_block.specs.Leaves.{pairs-length}
+use Rattle.write_block.specs.Every.{canonical-pairs, canonical-slot, slot-byte}
 use Rattle.write_block.specs.Promises.{written-gives}
 
 -- what stands in slot i, counted from 0: its number is i + 1
@@ -54,6 +57,10 @@ pub record Dropped (x : Shown) (b : List ℕ) : Type 0 where
   pub input : (dfp : Bool) → x .front .display .input ≡ Digital dfp → b ! 20 ≡ 128 + digit dfp
   pub size : x .front .display .size ≡ Image.None → (b ! 21 ≡ 0) × (b ! 22 ≡ 0)
   pub flags : b ! 37 % 128 ≡ 0
+  -- pairs stand at the front, and 01 01 behind them
+  pub eight : part b 38 16 ≡ pairsBytes 8 (eightOf x)
+  pub six : (i : ℕ) → i < 4 → timingsIn x i ≡ [] → (p : StandardTiming) (ps : List StandardTiming) → pairsIn x i ≡ p ∷ ps
+      → part (part b (start i) 18) 5 12 ≡ pairsBytes 6 (p ∷ ps)
   pub stereo : (i : ℕ) → i < 4 → (d : DetailedTiming) (ts : List DetailedTiming) → timingsIn x i ≡ d ∷ ts → d .stereo ≡ Stereo.None → b ! (start i + 17) % 2 ≡ 0
   pub tags : (i : ℕ) → i < 4 → timingsIn x i ≡ [] → (b ! (start i + 2) ≡ 0) × (b ! (start i + 4) ≡ 0)
   pub points : (i : ℕ) → i < 4 → timingsIn x i ≡ [] → pairsIn x i ≡ [] → (w : WhitePoint) (ws : List WhitePoint) → pointsIn x i ≡ w ∷ ws
@@ -71,6 +78,11 @@ slot-stereo : (d : DetailedTiming) (ts : List DetailedTiming) (ps : List Standar
 unfolding slotBytes
 slot-stereo d ts ps ws ds = no-stereo d
 
+slot-six : (p : StandardTiming) (ps : List StandardTiming) (ws : List WhitePoint) (ds : List Words)
+    → part (slotBytes [] (p ∷ ps) ws ds) 5 12 ≡ pairsBytes 6 (p ∷ ps)
+unfolding slotBytes
+slot-six p ps ws ds = take-at (pairsBytes 6 (p ∷ ps)) (0x0a ∷ []) 12 (pairs-length 6 (p ∷ ps))
+
 pub dropped : (x : Shown) → Dropped x (blockOf x)
 unfolding body frontBytes
 dropped x = record {
@@ -81,6 +93,8 @@ dropped x = record {
   input = digital-input (x .front);
   size = no-size (x .front);
   flags = behind-flags (x .front);
+  eight = canonical-pairs x;
+  six = λ i h e p ps q. rw (canonical-slot x i h, e, q) (slot-six p ps _ _);
   stereo = λ i h d ts e s. rw (slot-byte x i h 17 (omega arith), e) (slot-stereo d ts _ _ _ s);
   tags = λ i h e. rw (slot-byte x i h 2 (omega arith), slot-byte x i h 4 (omega arith), e) (beside-tag _ _ _);
   points = λ i h e p w ws q. rw (slot-byte x i h 6 (omega arith), slot-byte x i h 11 (omega arith), e, p, q) (point-digits w ws _);

@@ -1,4 +1,4 @@
--- Of every canonical block, whether it gives the record or not: its length, and its slots.
+-- Of every canonical block, whether it gives the record or not: its length, its eight pairs, and its slots.
 use Prim.Native.Nat.{ℕ, zero, suc, _+_, _*_, _<_}
 use mathlib.Core.Path.{_≡_, refl, sym, ap, _∙_}
 use mathlib.Core.Bool.{Bool, true, false}
@@ -11,6 +11,7 @@ use lib.Seq.{drop-append-add, drop-at, take-at, getD-take, getD-drop}
 use borrow.Author.Tests.{eqb-true, eqb-false}
 use Rattle.bits.specs.Bytes.{_!_, part}
 use Rattle.fixed.specs.Gather.{gather}
+use Rattle.sums.specs.Joined.{checksum}
 use Rattle.standard_record.specs.declared.DetailedTiming.{DetailedTiming}
 use Rattle.standard_record.specs.declared.StandardTiming.{StandardTiming}
 use Rattle.standard_record.specs.declared.WhitePoint.{WhitePoint}
@@ -97,6 +98,14 @@ module _ (x : Shown) where
   -- slot i of every canonical block is the canonical slot numbered i + 1
   pub canonical-slot : (i : ℕ) → i < 4 → part (blockOf x) (start i) 18 ≡ slotOf x (i + 1)
   canonical-slot = body-slot _
+
+  -- the 16 bytes before the slots
+  pub canonical-pairs : part (blockOf x) 38 16 ≡ pairsBytes 8 (eightOf x)
+  canonical-pairs =
+      let rest : List ℕ = gather slots 4 ++ (x .extensions ∷ checksum (body x) ∷ []) in
+      ap (λ s. part s 38 16) (body-is _ ∙ append-assoc (frontBytes (x .front)) (pairsBytes 8 (eightOf x)) rest)
+      ∙ ap (take 16) (drop-at (frontBytes (x .front)) (pairsBytes 8 (eightOf x) ++ rest) 38 (front-38 (x .front)))
+      ∙ take-at (pairsBytes 8 (eightOf x)) rest 16 (pairs-length 8 (eightOf x))
 
   -- every canonical block has 128 bytes
   pub block-size : length (blockOf x) ≡ 128

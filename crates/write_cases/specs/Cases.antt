@@ -148,8 +148,8 @@ cases =
     }
     -- a block's own record, which is written as other bytes
     ∷ record { given = standardOf careless .edid; lent = careless; before = out 128; number = 0; after = careful }
-    -- an output of 127 bytes
-    ∷ record { given = standardOf specimen .edid; lent = specimen; before = out 127; number = 10; after = out 127 }
+    -- an output of 127 bytes, which is judged first: no block gives this record either
+    ∷ record { given = panel [] [] []; lent = []; before = out 127; number = 10; after = out 127 }
     -- 256 wide, 16:10 at 61 Hz, which 01 01 would be
     ∷ refusal (panel (first 40000000 40) (heldPair .wrap 0 (mode 256 16 10 61) ∷ []) []) []
     -- a span one byte outside

@@ -1,7 +1,7 @@
 -- The loops over the flags, turn by turn. Assumes nothing.
 use Prim.Native.Nat.{ℕ, suc, _+_, _*_, _/_, _%_, _^_, _<_, _≤_}
 use mathlib.Core.Path.{_≡_, refl, ap, _∙_}
-use mathlib.Core.Bool.{Bool, true, false, cond}
+use mathlib.Core.Bool.{Bool, true, false, _&&_}
 use mathlib.Core.List.{List, [], _∷_}
 use native.Mathlib.Nat.{one-mul}
 use native.Mathlib.Numerals.{add-one}
@@ -26,12 +26,12 @@ same-lengths [] (y ∷ ys) h = refl
 same-lengths (x ∷ xs) [] h = refl
 same-lengths (x ∷ xs) (y ∷ ys) h = rw (same-lengths xs ys (λ e. h (ap suc e))) (never (eqb x y))
   where
-    never : (b : Bool) → cond b false false ≡ false
+    never : (b : Bool) → (b && false) ≡ false
     never true = refl
     never false = refl
 
 pub same-turn : (xs ys : List ℕ) (i : ℕ) → i < length xs → i < length ys
-    → sameList (drop i xs) (drop i ys) ≡ cond (eqb (getD xs i 0) (getD ys i 0)) (sameList (drop (i + 1) xs) (drop (i + 1) ys)) false
+    → sameList (drop i xs) (drop i ys) ≡ (eqb (getD xs i 0) (getD ys i 0) && sameList (drop (i + 1) xs) (drop (i + 1) ys))
 same-turn xs ys i h k = rw (add-one, drop-cons xs i 0 h, drop-cons ys i 0 k)
 
 pub same-end : (xs ys : List ℕ) (i : ℕ) → length xs ≤ i → length ys ≤ i → sameList (drop i xs) (drop i ys) ≡ true

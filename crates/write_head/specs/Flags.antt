@@ -1,7 +1,7 @@
 -- The three bytes of the established timings, from the numbers of the flags.
 use Prim.Native.Nat.{ℕ, _+_, _*_, _/_, _%_, _^_, _<_}
 use mathlib.Core.Path.{_≡_}
-use mathlib.Core.Bool.{Bool, true, false, cond}
+use mathlib.Core.Bool.{Bool, true, false, _&&_}
 use mathlib.Core.List.{List, [], _∷_}
 use lib.Dec.{eqb}
 use Rattle.standard_parts.specs.Timings.{flagsOf}
@@ -31,4 +31,4 @@ abbrev pub sameList : List ℕ → List ℕ → Bool
 sameList [] [] = true
 sameList [] (y ∷ ys) = false
 sameList (x ∷ xs) [] = false
-sameList (x ∷ xs) (y ∷ ys) = cond (eqb x y) (sameList xs ys) false
+sameList (x ∷ xs) (y ∷ ys) = eqb x y && sameList xs ys

@@ -11,7 +11,7 @@ use borrow.Author.Tests.{eqb-true, eq-eqb}
 use Rattle.bits.specs.Fields.{bit}
 use Rattle.fixed.specs.Gather.{gather, when}
 use Rattle.standard_parts.specs.Timings.{flagsOf}
-use Rattle.write_leaf.specs.Every.{both}
+use Rattle.write_leaf.specs.Digits.{both-hold}
 use Rattle.write_head.specs.Flags.{total, flagBytes, WritesFlags, sameList}
 
 -- ---- the comparison
@@ -21,7 +21,7 @@ same-is [] [] h = refl
 same-is [] (y ∷ ys) h = cc
 same-is (x ∷ xs) [] h = cc
 same-is (x ∷ xs) (y ∷ ys) h =
-    let p = both (eqb x y) (sameList xs ys) h in
+    let p = both-hold (eqb x y) (sameList xs ys) h in
     ap₂ _∷_ (eqb-true x y (p .0)) (same-is xs ys (p .1))
 
 same-self : (xs : List ℕ) → sameList xs xs ≡ true

@@ -17,8 +17,7 @@ use Rattle.standard_parts.specs.Descriptors.{limitsOf, secondaryOf, closingRefu
 use Rattle.standard_slots.specs.Spans.{SoundSecond}
 use Rattle.standard_slots.specs.Said.{rangeIn, said}
 use Rattle.write_leaf.specs.Bytes.{Bytes, low}
-use Rattle.write_leaf.specs.Digits.{three-hold, four-hold}
-use Rattle.write_leaf.specs.Every.{both}
+use Rattle.write_leaf.specs.Digits.{both-hold, three-hold, four-hold}
 use Rattle.write_slots.specs.Words.{Secondary, none, gtf, other, range, bytesOf, secondary, words}
 use Rattle.write_slots.specs.Slot.{tagged, limitsBytes, secondaryBytes}
 use Rattle.write_slots.specs.Writes.{WritesDescriptor}
@@ -76,7 +75,7 @@ secondary-shown : (lent : List ℕ) (l : Limits) (s : SecondaryTiming) → secon
     → SoundSecond s (length lent) × Shown (slot l (secondary lent s)) (range (again l) (secondary lent s))
 secondary-shown lent l SecondaryTiming.None h = (tt, none-shown l)
 secondary-shown lent l (SecondaryTiming.GTF start c m k j) h =
-    let p = both (ltb m 65536) (counted 2000 start) h in
+    let p = both-hold (ltb m 65536) (counted 2000 start) h in
     (tt, gtf-shown l start c m k j (p .1) (ltb-true m 65536 (p .0)))
 secondary-shown lent l (SecondaryTiming.Other kind s) h =
     let p = three-hold (not (eqb kind 0)) (not (eqb kind 2)) (exact 7 s (length lent)) h in

@@ -1,6 +1,6 @@
 -- What the private functions of `write_slots` answer: the tests that the code makes, and m < 65536, which the code has from m's type.
 use Prim.Native.Nat.{ℕ, _+_, _*_, _/_}
-use mathlib.Core.Bool.{Bool, true, false, cond, not}
+use mathlib.Core.Bool.{Bool, true, false, _&&_, not}
 use mathlib.Core.List.{List, [], _∷_}
 use lib.Dec.{eqb, leb, ltb}
 use lib.ListN.{length}
@@ -50,7 +50,7 @@ counted unit n = eqb (low (n / unit) * unit) n
 
 abbrev pub secondaryFits : SecondaryTiming → ℕ → Bool
 secondaryFits SecondaryTiming.None n = true
-secondaryFits (SecondaryTiming.GTF start c m k j) n = cond (ltb m 65536) (counted 2000 start) false
+secondaryFits (SecondaryTiming.GTF start c m k j) n = ltb m 65536 && counted 2000 start
 secondaryFits (SecondaryTiming.Other kind s) n = eqb (digit (not (eqb kind 0)) + digit (not (eqb kind 2)) + digit (exact 7 s n)) 3
 
 abbrev pub rangeFits : Limits → SecondaryTiming → ℕ → Bool
