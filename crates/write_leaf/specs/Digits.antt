@@ -42,9 +42,6 @@ pub digit-true : (b : Bool) → digit b ≡ 1 → b ≡ true
 digit-true true h = refl
 digit-true false h = cc
 
-pub agreed : (x y : ℕ) → digit (eqb x y) ≡ 1 → x ≡ y
-agreed x y h = eqb-true x y (digit-true (eqb x y) h)
-
 pub agrees : (x : ℕ) → eqb x x ≡ true
 agrees x = eq-eqb x x refl
 

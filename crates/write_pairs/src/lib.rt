@@ -3,7 +3,7 @@ use standard_record::HeldPair;
 use standard_record::StandardTimings;
 ghost use mathlib.Core.Path.{_≡_};
 ghost use Prim.Native.Nat.{_≤_, min};
-ghost use mathlib.Core.Bool.{_&&_, not};
+ghost use mathlib.Core.Bool.{not};
 ghost use lib.Dec.{eqb};
 ghost use Rattle.write_parts.specs.Pair.{WritesPair};
 ghost use Rattle.write_pairs.specs.Pairs.{most, pairsAhead, WritesPairs};

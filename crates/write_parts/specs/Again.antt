@@ -1,4 +1,4 @@
--- Laws: a pair, a gamma, a white point or a text that any bytes are read as, is read from its own bytes.
+-- Laws: a pair, a white point or a text that any bytes are read as, is read from its own bytes.
 use Prim.Native.Nat.{ℕ, zero, suc, _<_}
 use mathlib.Core.Path.{_≡_}
 use mathlib.Core.List.{List, [], _∷_}
@@ -8,7 +8,6 @@ use Rattle.standard_record.specs.declared.StandardTiming.{StandardTiming}
 use Rattle.standard_record.specs.declared.Gamma.{Gamma}
 use Rattle.standard_record.specs.declared.Gamma.the-variants as Gamma
 use Rattle.standard_record.specs.declared.WhitePoint.{WhitePoint}
-use Rattle.standard_parts.specs.Head.{gammaOf}
 use Rattle.standard_parts.specs.Text.{textLength}
 use Rattle.write_leaf.specs.Bytes.{Bytes}
 use Rattle.write_leaf.specs.Leaf.{Again, Two, BothBytes}
@@ -17,7 +16,7 @@ use Rattle.write_parts.specs.Pair.{pairBytes, ReadsPair}
 use Rattle.write_parts.specs.Point.{gammaByte, pointBytes, ReadsPoint}
 use Rattle.write_parts.specs.Text.{filled, textBytes, ReadsText}
 use Rattle.write_parts.specs.Pairs.{writes-pair}
-use Rattle.write_parts.specs.Points.{writes-gamma, point-index, point-written}
+use Rattle.write_parts.specs.Points.{point-index, point-written}
 use Rattle.write_parts.specs.Texts.{writes-text}
 
 -- ---- pairs
@@ -33,9 +32,6 @@ pair-again v s b r = again (writes-pair v) s b r (pair-are-bytes v)
 pub gamma-is-byte : (g : Gamma) → gammaByte g < 256
 gamma-is-byte Gamma.None = omega arith
 gamma-is-byte (Gamma.Some n) = omega arith
-
-pub gamma-again : (g : Gamma) (b : ℕ) → b < 256 → gammaOf b ≡ g → Again (λ b. b < 256) (λ b g. gammaOf b ≡ g) gammaByte g
-gamma-again g b h r = again (writes-gamma g) b h r (gamma-is-byte g)
 
 pub point-again : (p : WhitePoint) (t : List ℕ) → Bytes t → ReadsPoint t p → Again Bytes ReadsPoint pointBytes p
 unfolding pointBytes
