@@ -89,6 +89,14 @@ def tagged(tag):
     return text(below(14), tag) if tag in TEXTS else descriptor(tag, noise(13))
 
 
+def revisions():
+    """At revisions 0 to 5 and the last two, each ratio code in each of the 26 places of a pair; 01 00 and 01 01 are among them."""
+    for revision, turn in itertools.product((*range(6), 0xFE, 0xFF), range(4)):
+        every = [(1 + k % 3, (k + turn) % 4 << 6 | k // 13) for k in range(26)]
+        slots = {at: pairs(*every[8 + 6 * i:14 + 6 * i]) for i, at in enumerate(LATER)}
+        yield block({19: bytes([revision]), 38: bytes(itertools.chain(*every[:8])), **slots})
+
+
 def changed(part, at, value):
     return part[:at] + bytes([value]) + part[at + 1:]
 

@@ -1,5 +1,5 @@
 #!/usr/bin/env python3
-"""The standard reading of EDID blocks, written from document 01 and orders 1 and 2 of document 02 alone: the expected output of the replay.
+"""The standard reading of EDID blocks, written from document 01 and orders 1, 2 and 4 of document 02 alone: the expected output of the replay.
 
 Standard input holds frames: a length of two bytes, the low one first, then that many bytes. Standard output gets each frame's
 listing, then `--`.
@@ -66,10 +66,15 @@ def established(block):
     return line("established", *numbers)
 
 
-def pairs(part):
+def ratio(code, revision):
+    """16:10 came with revision 3."""
+    return (1, 1) if code == 0 and revision < 3 else RATIOS[code]
+
+
+def pairs(part, revision):
     for low, high in zip(part[0::2], part[1::2]):
         if (low, high) != (1, 1):
-            yield line("standard", (low + 31) * 8, *RATIOS[high >> 6], high % 64 + 60)
+            yield line("standard", (low + 31) * 8, *ratio(high >> 6, revision), high % 64 + 60)
 
 
 def axis(active, blanking, front, sync, at):
@@ -129,12 +134,12 @@ def text(name, part, at):
     return line(name, at + 5, length)
 
 
-def descriptor(slot, at):
+def descriptor(slot, at, revision):
     """The list that a slot without a clock feeds, and its entries."""
     tag, data = slot[3], slot[5:18]
     if tag == 0xFA:
         must(slot[17:18], 0x0A, 4, at)
-        return "standard", [*pairs(data[:12])]
+        return "standard", [*pairs(data[:12], revision)]
     if tag == 0xFB:
         must(slot[15:16], 0x0A, 4, at)
         must(slot[16:18], 0x20, 5, at)
@@ -154,7 +159,8 @@ def reading(block):
                                (sum(block) % 256 == 0, 8, 127), (block[18:19] == b"\1", 9, 18)):
         if not passed:
             raise Refused(number, at)
-    lists = {"white": [], "standard": [line(pair, 0) for pair in pairs(block[38:54])], "detailed": [], "descriptor": []}
+    revision = block[19]
+    lists = {"white": [], "standard": [line(pair, 0) for pair in pairs(block[38:54], revision)], "detailed": [], "descriptor": []}
     for number, at in enumerate(SLOTS, 1):
         slot = block[at:at + 18]
         if little(slot[0:2]):
@@ -162,13 +168,13 @@ def reading(block):
         elif at == SLOTS[0]:
             raise Refused(3, at)
         else:
-            kind, entries = descriptor(slot, at)
+            kind, entries = descriptor(slot, at, revision)
         lists[kind] += [line(entry, number) for entry in entries]
     features = block[24]
     return [
         "accept",
         product(block),
-        line("version", block[18], block[19]),
+        line("version", block[18], revision),
         video(block[20]),
         line("size", *((block[21] * 10, block[22] * 10) if block[21] and block[22] else ("none",))),
         line("gamma", gamma(block[23])),

@@ -1,5 +1,5 @@
 #!/usr/bin/env python3
-"""The block that a standard record is written to, by document 01 and order 3 of document 02 alone: the expected output of write_replay.
+"""The block that a standard record is written to, by document 01 and orders 3 and 4 of document 02 alone: the expected output of write_replay.
 
 Standard input holds frames, as for tools/standard_reader.py, which reads them: its listing, with the bytes that its texts show, is all that a
 block is made of. Standard output gets for each frame the reader's refusal, or `block` and the 128 bytes in hex, then `--`. Every block that is made
@@ -87,7 +87,10 @@ def packed_to_front(parts, count, unused):
 
 
 def pair(width, across, down, rate):
-    return bytes([int(width) // 8 - 31, RATIOS.index((int(across), int(down))) << 6 | int(rate) - 60])
+    """Code 0 is 1:1 or 16:10: which of them, is seen when the block is read again."""
+    ratio = int(across), int(down)
+    code = 0 if ratio == (1, 1) else RATIOS.index(ratio)
+    return bytes([int(width) // 8 - 31, code << 6 | int(rate) - 60])
 
 
 def point(index, x, y, power):

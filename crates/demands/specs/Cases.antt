@@ -31,8 +31,8 @@ use Rattle.standard_verdict.specs.Verdict.{beforeSlots}
 use Rattle.standard_slots.specs.Said.{pointAt, rangeIn, said}
 use Rattle.standard_reading.specs.Slots.{judged}
 use Rattle.standard_reading.specs.Block.{recordOf, standardOf}
-use Rattle.demands.specs.Specimen.{specimen, lobby, specimenWith, named}
-use Rattle.demands.specs.Panels.{fullBlock, rangeBlock, twoTimings, blankBeside, showing, specimenShows, fullShows, rangeShows, twoShow}
+use Rattle.demands.specs.Specimen.{specimen, lobby, mode, specimenOf, specimenWith, named}
+use Rattle.demands.specs.Panels.{fullBlock, rangeBlock, twoTimings, ratioBlock, blankBeside, showing, specimenShows, fullShows, rangeShows, twoShow, ratioShows}
 
 -- a block, and what one of the two readings makes of it
 pub data Case : Type 0 where
@@ -84,6 +84,7 @@ cases =
     crate-reads (set specimen 83 0x21) (refused 5 84) ∷
     crate-reads (with (0x00 ∷ 0x00 ∷ 0x00 ∷ 0x00 ∷ 0x00 ∷ 0x00 ∷ 0x00 ∷ []) 83 90) (refused 5 84) ∷
     crate-reads (with (white-slot []) 72 90) (refused 4 93) ∷
+    crate-reads (ratioBlock 2 0xc3) (got (specimenOf 2 (mode 1280 0x3fcc_cccd ∷ mode 1920 0x3fcc_cccd ∷ []) (lobby 40 88) [] (drop 1 named)) 127) ∷
     standard-reads specimen (specimenShows 800) ∷
     standard-reads (take 127 specimen) (blankBeside 7 0) ∷
     standard-reads (set specimen 127 0xc4) (blankBeside 8 127) ∷
@@ -102,8 +103,12 @@ cases =
     standard-reads (set (set specimen 62 0x81) 127 0x6a) (blankBeside 6 54) ∷
     standard-reads fullBlock fullShows ∷
     standard-reads rangeBlock rangeShows ∷
-    standard-reads twoTimings twoShow ∷ []
+    standard-reads twoTimings twoShow ∷
+    standard-reads (ratioBlock 0 0xc5) (ratioShows 0 1 1) ∷
+    standard-reads (ratioBlock 2 0xc3) (ratioShows 2 1 1) ∷
+    standard-reads (ratioBlock 3 0xc2) (ratioShows 3 16 10) ∷
+    standard-reads (ratioBlock 4 0xc1) (ratioShows 4 16 10) ∷ []
 
 pub cases-hold : Hold cases
-unfolding cases shortest longest six fullBlock rangeBlock twoTimings showing specimenShows fullShows rangeShows twoShow specimen lobby specimenWith named byte word long header maker date product version inputOf input sizeOf gammaFrom dpmsOf dpms display color front flagsBy established standardTimingOf pairOf pair pairs scan padding skip span text syncOf fitted axes timingOf timed detailed spaces closing pointOf point ended second points white stringOf string rawOf raw tagged descriptor later slots parts plain reading tagOf standardOf beforeSlots judged recordOf said pointAt rangeIn timingIn productIn colorsIn inputBy imageOf gammaOf featuresOf pointBy flagsOf pairBy secondaryOf closingRefusal rangeRefusal blank backPorch acrossOf downOf ofBits ofInt add div
-cases-hold = (refl, (refl, (refl, (refl, (refl, (refl, (refl, (refl, (refl, (refl, (refl, (refl, (refl, (refl, (refl, (refl, (refl, (refl, (refl, (refl, (refl, (refl, (refl, (refl, (refl, (refl, (refl, (refl, (refl, (refl, (refl, (refl, (refl, tt)))))))))))))))))))))))))))))))))
+unfolding cases shortest longest six fullBlock rangeBlock twoTimings ratioBlock showing specimenShows fullShows rangeShows twoShow ratioShows specimen lobby specimenOf named byte word long header maker date product version inputOf input sizeOf gammaFrom dpmsOf dpms display color front flagsBy established standardTimingOf pairOf pair pairs scan padding skip span text syncOf fitted axes timingOf timed detailed spaces closing pointOf point ended second points white stringOf string rawOf raw tagged descriptor later slots parts plain reading tagOf standardOf beforeSlots judged recordOf said pointAt rangeIn timingIn productIn colorsIn inputBy imageOf gammaOf featuresOf pointBy flagsOf pairBy secondaryOf closingRefusal rangeRefusal blank backPorch acrossOf downOf ofBits ofInt add div
+cases-hold = (refl, (refl, (refl, (refl, (refl, (refl, (refl, (refl, (refl, (refl, (refl, (refl, (refl, (refl, (refl, (refl, (refl, (refl, (refl, (refl, (refl, (refl, (refl, (refl, (refl, (refl, (refl, (refl, (refl, (refl, (refl, (refl, (refl, (refl, (refl, (refl, (refl, (refl, tt))))))))))))))))))))))))))))))))))))))

@@ -1,5 +1,5 @@
--- What the standard reading makes of the specimen, and of three more blocks: one with an analog input and as many pairs as there can be, one
--- with a white point and ranges, and one with two timings.
+-- What the standard reading makes of the specimen, and of four more blocks: one with an analog input and as many pairs as there can be, one
+-- with a white point and ranges, one with two timings, and one of any revision with a ratio of code 0.
 use Prim.Native.Nat.{ℕ}
 use mathlib.Core.Bool.{true, false}
 use mathlib.Core.List.{List, [], _∷_, _++_, map}
@@ -57,6 +57,13 @@ rangeBlock =
 unfoldable pub twoTimings : List ℕ
 twoTimings = take 90 specimen ++ drop 54 (take 72 specimen) ++ drop 108 (take 127 specimen) ++ (0x51 ∷ [])
 
+-- ratio code 0 in a pair before the slots, 81 00, and in one of an fa slot, d1 00
+unfoldable pub ratioBlock : ℕ → ℕ → List ℕ
+ratioBlock revision sum =
+    take 19 specimen ++ (revision ∷ []) ++ drop 20 (take 39 specimen) ++ (0x00 ∷ []) ++ drop 40 (take 72 specimen) ++ (
+    0x00 ∷ 0x00 ∷ 0x00 ∷ 0xfa ∷ 0x00 ∷ 0xd1 ∷ 0x00 ∷ 0x01 ∷ 0x01 ∷ 0x01 ∷ 0x01 ∷ 0x01 ∷ 0x01 ∷ 0x01 ∷ 0x01 ∷ 0x01 ∷ 0x01 ∷ 0x0a ∷ [])
+    ++ drop 90 (take 127 specimen) ++ (sum ∷ [])
+
 -- ---- their records
 
 -- a refusal, with the filler beside it
@@ -79,13 +86,13 @@ lobbyTiming active = record {
   sync = DigitalSeparate Positive Positive;
 }
 
--- the specimen's record with this input and these lists: an array and a length each
-unfoldable pub showing : VideoInput → List HeldTiming → ℕ → List HeldPoint → ℕ → List HeldPair → ℕ → List Held → ℕ → StandardReading
-showing input timings timed points pointed standards listed entries entered =
+-- the specimen's record with this revision, this input and these lists: an array and a length each
+unfoldable pub showing : ℕ → VideoInput → List HeldTiming → ℕ → List HeldPoint → ℕ → List HeldPair → ℕ → List Held → ℕ → StandardReading
+showing revision input timings timed points pointed standards listed entries entered =
     record {
       edid = record {
         product = record { maker = record { 0 = 0x41; 1 = 0x42; 2 = 0x43 }; code = 4660; serial = 1; week = 10; year = 2020 };
-        version = record { version = 1; revision = 3 };
+        version = record { version = 1; revision = revision };
         display = record {
           input = input;
           size = Size.Some (record { width = 320; height = 180 });
@@ -124,14 +131,14 @@ oneTiming active = pad 4 blankDetailed (heldTiming .wrap 1 (lobbyTiming active) 
 
 unfoldable pub specimenShows : ℕ → StandardReading
 specimenShows active =
-    showing (Digital true) (oneTiming active) 1 (pad 6 blankWhite []) 0 (pad 26 blankStandard (heldPair .wrap 0 (mode 1280 5 4 60) ∷ [])) 1 (
+    showing 3 (Digital true) (oneTiming active) 1 (pad 6 blankWhite []) 0 (pad 26 blankStandard (heldPair .wrap 0 (mode 1280 5 4 60) ∷ [])) 1 (
     held .wrap 2 (Name (record { start = 77; len = 5 })) ∷
     held .wrap 3 (MakerDefined 0 (record { start = 95; len = 13 })) ∷
     held .wrap 4 (MakerDefined 0 (record { start = 113; len = 13 })) ∷ []) 3
 
 unfoldable pub fullShows : StandardReading
 fullShows =
-    showing (Analog 1 false (record { serrated = true; green = true; composite = false; separate = true })) (oneTiming 800) 1 (pad 6 blankWhite []) 0 (
+    showing 3 (Analog 1 false (record { serrated = true; green = true; composite = false; separate = true })) (oneTiming 800) 1 (pad 6 blankWhite []) 0 (
     map (heldPair .wrap 0) (
     mode 256 16 10 60 ∷ mode 264 4 3 61 ∷ mode 272 5 4 62 ∷ mode 280 16 9 63 ∷ mode 288 16 10 64 ∷ mode 296 4 3 65 ∷
     mode 304 5 4 66 ∷ mode 312 16 9 67 ∷ [])
@@ -149,13 +156,21 @@ ranged t = Range (record { vmin = 56; vmax = 75; hmin = 30000; hmax = 83000; clo
 
 unfoldable pub rangeShows : StandardReading
 rangeShows =
-    showing (Digital true) (oneTiming 800) 1 (pad 6 blankWhite (heldPoint .wrap 2 (record { index = 2; place = record { x = 322; y = 338 }; gamma = Gamma.None }) ∷ [])) 1
+    showing 3 (Digital true) (oneTiming 800) 1 (pad 6 blankWhite (heldPoint .wrap 2 (record { index = 2; place = record { x = 322; y = 338 }; gamma = Gamma.None }) ∷ [])) 1
     (pad 26 blankStandard (heldPair .wrap 0 (mode 1280 5 4 60) ∷ [])) 1
     (pad 3 blankHeld (held .wrap 3 (ranged (GTF 80000 80 0 128 40)) ∷ held .wrap 4 (ranged None) ∷ [])) 2
 
 unfoldable pub twoShow : StandardReading
 twoShow =
-    showing (Digital true) (pad 4 blankDetailed (heldTiming .wrap 1 (lobbyTiming 800) ∷ heldTiming .wrap 3 (lobbyTiming 800) ∷ [])) 2
+    showing 3 (Digital true) (pad 4 blankDetailed (heldTiming .wrap 1 (lobbyTiming 800) ∷ heldTiming .wrap 3 (lobbyTiming 800) ∷ [])) 2
     (pad 6 blankWhite []) 0 (pad 26 blankStandard (heldPair .wrap 0 (mode 1280 5 4 60) ∷ [])) 1 (pad 3 blankHeld (
     held .wrap 2 (Name (record { start = 77; len = 5 })) ∷
+    held .wrap 4 (MakerDefined 0 (record { start = 113; len = 13 })) ∷ [])) 2
+
+-- both pairs with this ratio
+unfoldable pub ratioShows : ℕ → ℕ → ℕ → StandardReading
+ratioShows revision w h =
+    showing revision (Digital true) (oneTiming 800) 1 (pad 6 blankWhite []) 0
+    (pad 26 blankStandard (heldPair .wrap 0 (mode 1280 w h 60) ∷ heldPair .wrap 2 (mode 1920 w h 60) ∷ [])) 2 (pad 3 blankHeld (
+    held .wrap 3 (MakerDefined 0 (record { start = 95; len = 13 })) ∷
     held .wrap 4 (MakerDefined 0 (record { start = 113; len = 13 })) ∷ [])) 2

@@ -8,6 +8,7 @@ use Rattle.timing.specs.declared.SyncPolarity.the-variants.{Positive}
 use Rattle.timing.specs.declared.StereoType.the-variants as Stereo
 use Rattle.crate_record.specs.Seen.{holding}
 use Rattle.crate_record.specs.declared.EDID.{EDID}
+use Rattle.crate_record.specs.declared.StandardTiming.{StandardTiming}
 use Rattle.crate_record.specs.declared.DetailedTiming.{DetailedTiming}
 use Rattle.crate_record.specs.declared.Chromaticity.{Chromaticity}
 use Rattle.crate_record.specs.declared.WhitePoint.{WhitePoint}
@@ -48,9 +49,13 @@ lobby front back =
 abbrev half-quarter : Chromaticity
 half-quarter = record { x = ofBits binary32 0x3f00_0000; y = ofBits binary32 0x3e80_0000 }
 
--- the specimen's record, with this detailed timing, these white points and these descriptors
-unfoldable pub specimenWith : DetailedTiming → List WhitePoint → List Held → EDID
-specimenWith t points descriptors =
+-- at 60 Hz, with the bits of its ratio
+abbrev pub mode : ℕ → ℕ → StandardTiming
+mode width ratio = record { ratio = ofBits binary32 ratio; width = width; rate = 60 }
+
+-- the specimen's record, with this revision, these standard timings, this detailed timing, these white points and these descriptors
+unfoldable pub specimenOf : ℕ → List StandardTiming → DetailedTiming → List WhitePoint → List Held → EDID
+specimenOf revision standard t points descriptors =
     holding (record {
       product = record {
         maker = record { 0 = 16; 1 = 24; 2 = 4 };
@@ -58,7 +63,7 @@ specimenWith t points descriptors =
         serial = 1;
         date = record { week = 10; year = 2020 };
       };
-      version = record { version = 1; revision = 3 };
+      version = record { version = 1; revision = revision };
       display = record {
         input = Digital true;
         size = Size.Some (record { width = ofBits binary32 0x4200_0000; height = ofBits binary32 0x4190_0000 });
@@ -76,11 +81,15 @@ specimenWith t points descriptors =
       basic = record { red = half-quarter; green = half-quarter; blue = half-quarter; white = half-quarter };
       points = points;
       established = 0 ∷ 11 ∷ 16 ∷ [];
-      standard = record { ratio = ofBits binary32 0x3fa0_0000; width = 1280; rate = 60 } ∷ [];
+      standard = standard;
       detailed = t ∷ [];
       descriptors = descriptors;
       extensions = 0;
     })
+
+-- with its own revision and pair, of 5/4
+abbrev pub specimenWith : DetailedTiming → List WhitePoint → List Held → EDID
+specimenWith = specimenOf 3 (mode 1280 0x3fa0_0000 ∷ [])
 
 -- its name, and two empty descriptors
 unfoldable pub named : List Held

@@ -9,11 +9,11 @@ use Rattle.standard_record.specs.Filler.{blank}
 use Rattle.standard_record.specs.Held.{heldPair}
 use Rattle.standard_record.specs.Seen.{Seen, seen, Same, holding, shows}
 use Rattle.standard_record.specs.declared.Verdict.the-variants.{Accepted, Refused}
-use Rattle.standard_slots.specs.Said.{four, lists, pairsAt}
+use Rattle.standard_slots.specs.Said.{four, lists}
 use Rattle.standard_slots.specs.Few.{OneKind, one-kind}
 use Rattle.standard_slots.specs.Spans.{Sounds}
 use Rattle.standard_reading.specs.Slots.{saidIn}
-use Rattle.standard_reading.specs.Block.{plain, recordOf, beside, standardOf}
+use Rattle.standard_reading.specs.Block.{eightIn, plain, recordOf, beside, standardOf}
 use Rattle.standard_reading.specs.Judged.{end-is-verdict, bounded, sounds}
 use Rattle.standard_reading.specs.Room.{fits, accepted}
 use Rattle.standard_reading.specs.Entries.{entries, AllNeverFall, never-fall, entries-0, entries-of-slot, SameEntries, known-by-entries}
@@ -57,12 +57,12 @@ one-slot-one-kind s e i h = rw (entries-are-what-the-slot-says s e i h) (one-kin
 
 -- the entries numbered 0 are the eight pairs at offset 38
 pub number-0-for-the-eight-pairs : (s : List ℕ) → standardOf s .end ≡ Accepted
-    → entries 0 (seen (standardOf s .edid)) ≡ four [] (pairsAt s 38 8) [] []
+    → entries 0 (seen (standardOf s .edid)) ≡ four [] (eightIn s) [] []
 number-0-for-the-eight-pairs s e = rw (nothing-dropped s e) (entries-0 s)
 
 -- these come first, then the pairs of slot after slot
 pub eight-pairs-first : (s : List ℕ) → standardOf s .end ≡ Accepted
-    → seen (standardOf s .edid) .standard ≡ map (heldPair .wrap 0) (pairsAt s 38 8) ++ turns heldPair (λ i. lists (saidIn s i) .pairs) 4
+    → seen (standardOf s .edid) .standard ≡ map (heldPair .wrap 0) (eightIn s) ++ turns heldPair (λ i. lists (saidIn s i) .pairs) 4
 eight-pairs-first s e = ap (λ x. x .standard) (nothing-dropped s e)
 
 -- and no other lists keep these promises: with two of their entries swapped, a number has other entries, or the numbers fall

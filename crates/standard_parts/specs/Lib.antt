@@ -1,4 +1,5 @@
 -- What the contracts of `standard_parts` cite, and where a text ends.
+pub mod Structure
 pub mod Head
 pub mod Color
 pub mod Timings

@@ -1,4 +1,4 @@
--- Timings: the established flags, and the pairs of a standard timing.
+-- Timings: the established flags, and the pairs of a standard timing. σ is the structure.
 use Prim.Native.Nat.{ℕ, _+_, _*_}
 use mathlib.Core.Bool.{_&&_, cond}
 use mathlib.Core.List.{List, _++_}
@@ -6,6 +6,8 @@ use lib.Dec.{eqb}
 use Rattle.bits.specs.Fields.{digits, bit, byCode}
 use Rattle.fixed.specs.Gather.{gather, when}
 use Rattle.standard_record.specs.declared.Ratio.{Ratio}
+use Rattle.standard_parts.specs.declared.Structure.{Structure}
+use Rattle.standard_parts.specs.declared.Structure.the-variants.{Below3, From3}
 use Rattle.standard_parts.specs.declared.Pair.{Pair}
 use Rattle.standard_parts.specs.declared.Pair.the-variants.{Skipped, Listed}
 
@@ -16,11 +18,16 @@ flagsOf b35 b36 b37 = gather (λ k. when (bit (b35 + 256 * b36) k) k) 16 ++ when
 abbrev pub ratio : ℕ → ℕ → Ratio
 ratio w h = record { width = w; height = h }
 
-abbrev pub ratioOf : ℕ → Ratio
-ratioOf code = byCode code (ratio 16 10) (ratio 4 3) (ratio 5 4) (ratio 16 9)
+-- of code 0: 16:10 came with revision 3
+abbrev pub firstRatio : Structure → Ratio
+firstRatio Below3 = ratio 1 1
+firstRatio From3 = ratio 16 10
+
+abbrev pub ratioOf : Structure → ℕ → Ratio
+ratioOf σ code = byCode code (firstRatio σ) (ratio 4 3) (ratio 5 4) (ratio 16 9)
 
 -- 01 01 is no timing
-unfoldable pub pairOf : ℕ → ℕ → Pair
-pairOf low high =
+unfoldable pub pairOf : Structure → ℕ → ℕ → Pair
+pairOf σ low high =
     cond (eqb low 1 && eqb high 1) Skipped
-    (Listed (record { width = (low + 31) * 8; ratio = ratioOf (digits high 6 2); rate = digits high 0 6 + 60 }))
+    (Listed (record { width = (low + 31) * 8; ratio = ratioOf σ (digits high 6 2); rate = digits high 0 6 + 60 }))

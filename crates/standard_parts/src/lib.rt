@@ -1,5 +1,5 @@
-// What the standard reading makes of the bytes of each field, by E-EDID structure 1.3. Nothing here knows where a slot stands:
-// bytes are named by their place in the block or in their slot.
+// What the standard reading makes of the bytes of each field, by E-EDID structure 1.3, and of a ratio by those before it too. Nothing here knows where
+// a slot stands: bytes are named by their place in the block or in their slot.
 use shared_record::EstablishedTimings;
 use shared_record::SupportedSync;
 use standard_record::Chromaticity;
@@ -20,9 +20,16 @@ ghost use mathlib.Core.Path.{_≡_};
 ghost use Rattle.shared_record.specs.Established.{establishedTimings};
 ghost use Rattle.standard_parts.specs.Head.{letterOf, makerOf, inputOf, imageOf, gammaOf, typeOf, featuresOf};
 ghost use Rattle.standard_parts.specs.Color.{chromaticityOf, pointOf};
-ghost use Rattle.standard_parts.specs.Timings.{flagsOf, ratioOf, pairOf};
+ghost use Rattle.standard_parts.specs.Structure.{structureOf};
+ghost use Rattle.standard_parts.specs.Timings.{flagsOf, firstRatio, ratioOf, pairOf};
 ghost use Rattle.standard_parts.specs.Descriptors.{limitsOf, secondaryOf, closingRefusal, rangeRefusal};
 ghost use Rattle.standard_parts.specs.Text.{textLength, spacesOr, allSpaces, isPadded};
+
+// The structure of a block: what its revision decides.
+pub enum Structure {
+    Below3,
+    From3,
+}
 
 // What two bytes of a standard timing say.
 pub enum Pair {
@@ -34,6 +41,16 @@ pub enum Pair {
 pub enum Point {
     Skipped,
     Listed(WhitePoint),
+}
+
+pub fn structure_of(revision: u8) -> Structure
+    ensures { λ r. ⌜ r ≡ structureOf revision ⌝ }
+{
+    if revision < 3 {
+        Structure::Below3
+    } else {
+        Structure::From3
+    }
 }
 
 // ---- the head
@@ -180,14 +197,26 @@ pub fn established_of(b35: u8, b36: u8, b37: u8) -> EstablishedTimings
     EstablishedTimings { items, len }
 }
 
-fn ratio_of(code: u8) -> Ratio
-    ensures { λ r. ⌜ r ≡ ratioOf code ⌝ }
+fn first_ratio(structure: Structure) -> Ratio
+    ensures { λ r. ⌜ r ≡ firstRatio structure ⌝ }
 {
-    match code {
-        0 => Ratio {
+    match structure {
+        Structure::Below3 => Ratio {
+            width: 1,
+            height: 1,
+        },
+        Structure::From3 => Ratio {
             width: 16,
             height: 10,
         },
+    }
+}
+
+fn ratio_of(structure: Structure, code: u8) -> Ratio
+    ensures { λ r. ⌜ r ≡ ratioOf structure code ⌝ }
+{
+    match code {
+        0 => first_ratio(structure),
         1 => Ratio {
             width: 4,
             height: 3,
@@ -203,15 +232,15 @@ fn ratio_of(code: u8) -> Ratio
     }
 }
 
-pub fn pair_of(low: u8, high: u8) -> Pair
-    ensures { λ r. ⌜ r ≡ pairOf low high ⌝ }
+pub fn pair_of(structure: Structure, low: u8, high: u8) -> Pair
+    ensures { λ r. ⌜ r ≡ pairOf structure low high ⌝ }
 {
     if low == 1 && high == 1 {
         Pair::Skipped
     } else {
         Pair::Listed(StandardTiming {
             width: (low as u16 + 31) * 8,
-            ratio: ratio_of(bits::digits(high, 6, 2)),
+            ratio: ratio_of(structure, bits::digits(high, 6, 2)),
             rate: bits::digits(high, 0, 6) as u16 + 60,
         })
     }

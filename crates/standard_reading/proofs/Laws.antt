@@ -15,6 +15,7 @@ use Rattle.standard_record.specs.declared.HeldTiming.{HeldTiming}
 use Rattle.standard_record.specs.declared.Held.{Held}
 use Rattle.standard_record.specs.declared.Verdict.the-variants.{Accepted, Refused}
 use Rattle.standard_slots.specs.Said.{Said, refusal, pairsAt, lists}
+use Rattle.standard_parts.specs.declared.Structure.{Structure}
 use Rattle.standard_slots.specs.Few.{pairs-at-most}
 use Rattle.standard_verdict.specs.Verdict.{refusedAt, _then_}
 use Rattle.standard_reading.specs.Slots.{start, saidIn, judge, judged}
@@ -80,17 +81,17 @@ module _ {s : List ℕ} {i : ℕ} {st : List HeldPair} {ns : ℕ} {dt : List Hel
       }
 
 -- pairs behind those of the first i slots
-pub pairs-so-far : (s t : List ℕ) (i k : ℕ) {st : List HeldPair} {ns : ℕ}
-    → Holds 26 blankStandard (pairsOf s i ++ map (heldPair .wrap (i + 1)) (pairsAt t 5 k)) st ns → ns ≤ 8 + (i - 1) * 6 + k
-pairs-so-far s t i k h =
+pub pairs-so-far : (s : List ℕ) (σ : Structure) (t : List ℕ) (i k : ℕ) {st : List HeldPair} {ns : ℕ}
+    → Holds 26 blankStandard (pairsOf s i ++ map (heldPair .wrap (i + 1)) (pairsAt σ t 5 k)) st ns → ns ≤ 8 + (i - 1) * 6 + k
+pairs-so-far s σ t i k h =
     let w = heldPair .wrap (i + 1) in
     omega (
       arith,
       held-at-most h,
-      length-append (pairsOf s i) (map w (pairsAt t 5 k)),
-      length-map (pairsAt t 5 k) w,
+      length-append (pairsOf s i) (map w (pairsAt σ t 5 k)),
+      length-map (pairsAt σ t 5 k) w,
       pairs-room s i,
-      pairs-at-most t 5 k,
+      pairs-at-most σ t 5 k,
     )
 
 -- the four slots' lists

@@ -12,6 +12,7 @@ use Rattle.standard_record.specs.declared.Verdict.{Verdict}
 use Rattle.standard_record.specs.declared.Verdict.the-variants.{Accepted, Refused}
 use Rattle.standard_record.specs.declared.StandardRecord.{StandardRecord}
 use Rattle.standard_record.specs.declared.StandardReading.{StandardReading}
+use Rattle.standard_record.specs.declared.StandardTiming.{StandardTiming}
 use Rattle.standard_record.specs.declared.HeldPoint.{HeldPoint}
 use Rattle.standard_record.specs.declared.HeldPair.{HeldPair}
 use Rattle.standard_record.specs.declared.HeldTiming.{HeldTiming}
@@ -19,7 +20,7 @@ use Rattle.standard_record.specs.declared.Held.{Held}
 use Rattle.standard_head.specs.Head.{productIn, versionIn, displayIn, colorsIn}
 use Rattle.standard_parts.specs.Timings.{flagsOf}
 use Rattle.standard_slots.specs.Said.{pairsAt, lists}
-use Rattle.standard_reading.specs.Slots.{saidIn, verdictOf}
+use Rattle.standard_reading.specs.Slots.{structureIn, saidIn, verdictOf}
 
 -- ---- what the block lists
 
@@ -30,9 +31,13 @@ flagsIn s = flagsOf (s ! 35) (s ! 36) (s ! 37)
 abbrev pub timingsOf : List ℕ → ℕ → List HeldTiming
 timingsOf s n = turns heldTiming (λ i. lists (saidIn s i) .timings) n
 
--- the eight pairs first, with 0
+-- the eight pairs before the slots
+abbrev pub eightIn : List ℕ → List StandardTiming
+eightIn s = pairsAt (structureIn s) s 38 8
+
+-- they come first, with 0
 abbrev pub pairsOf : List ℕ → ℕ → List HeldPair
-pairsOf s n = map (heldPair .wrap 0) (pairsAt s 38 8) ++ turns heldPair (λ i. lists (saidIn s i) .pairs) n
+pairsOf s n = map (heldPair .wrap 0) (eightIn s) ++ turns heldPair (λ i. lists (saidIn s i) .pairs) n
 
 abbrev pub pointsOf : List ℕ → ℕ → List HeldPoint
 pointsOf s n = turns heldPoint (λ i. lists (saidIn s i) .points) n

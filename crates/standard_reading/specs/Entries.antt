@@ -5,9 +5,9 @@ use mathlib.Core.List.{List, []}
 use Rattle.fixed.specs.Numbered.{numbered, NeverFalls, Told, told, known-by-numbers}
 use Rattle.standard_record.specs.Held.{heldPoint, heldPair, heldTiming, held}
 use Rattle.standard_record.specs.Seen.{Seen}
-use Rattle.standard_slots.specs.Said.{Lists, four, lists, pairsAt}
+use Rattle.standard_slots.specs.Said.{Lists, four, lists}
 use Rattle.standard_reading.specs.Slots.{saidIn}
-use Rattle.standard_reading.specs.Block.{timingsOf, pairsOf, pointsOf, descriptorsOf, plain}
+use Rattle.standard_reading.specs.Block.{timingsOf, eightIn, pairsOf, pointsOf, descriptorsOf, plain}
 
 -- those numbered n, list by list and without the number
 abbrev pub entries : ℕ → Seen → Lists
@@ -27,8 +27,8 @@ module _ (s : List ℕ) where
   timings-told : Told heldTiming [] (λ i. lists (saidIn s i) .timings) 4 (timingsOf s 4)
   timings-told = told heldTiming [] (λ i. lists (saidIn s i) .timings) 4
 
-  pairs-told : Told heldPair (pairsAt s 38 8) (λ i. lists (saidIn s i) .pairs) 4 (pairsOf s 4)
-  pairs-told = told heldPair (pairsAt s 38 8) (λ i. lists (saidIn s i) .pairs) 4
+  pairs-told : Told heldPair (eightIn s) (λ i. lists (saidIn s i) .pairs) 4 (pairsOf s 4)
+  pairs-told = told heldPair (eightIn s) (λ i. lists (saidIn s i) .pairs) 4
 
   points-told : Told heldPoint [] (λ i. lists (saidIn s i) .points) 4 (pointsOf s 4)
   points-told = told heldPoint [] (λ i. lists (saidIn s i) .points) 4
@@ -45,7 +45,7 @@ module _ (s : List ℕ) where
   }
 
   -- the entries numbered 0 are the eight pairs
-  pub entries-0 : entries 0 (plain s) ≡ four [] (pairsAt s 38 8) [] []
+  pub entries-0 : entries 0 (plain s) ≡ four [] (eightIn s) [] []
   entries-0 j = four (timings-told .before j) (pairs-told .before j) (points-told .before j) (descriptors-told .before j)
 
   -- the entries numbered i + 1 are what slot i says

@@ -13,20 +13,20 @@ use Rattle.standard_record.specs.Held.{heldPoint, heldPair, heldTiming, held}
 use Rattle.standard_record.specs.declared.Verdict.the-variants.{Accepted}
 use Rattle.standard_record.specs.Seen.{holding, Fits}
 use Rattle.standard_parts.specs.Timings.{flagsOf}
-use Rattle.standard_slots.specs.Said.{pairsAt, lists}
+use Rattle.standard_slots.specs.Said.{lists}
 use Rattle.standard_slots.specs.Few.{Few, few, NoneButTimings, first-slot, pairs-at-most}
-use Rattle.standard_reading.specs.Slots.{start, saidIn}
-use Rattle.standard_reading.specs.Block.{timingsOf, pairsOf, pointsOf, descriptorsOf, plain, recordOf, beside, standardOf}
+use Rattle.standard_reading.specs.Slots.{start, structureIn, saidIn}
+use Rattle.standard_reading.specs.Block.{timingsOf, eightIn, pairsOf, pointsOf, descriptorsOf, plain, recordOf, beside, standardOf}
 use Rattle.standard_reading.specs.Judged.{end-is-verdict}
 
 -- ---- after n slots
 
 module _ (s : List ℕ) where
   few-in : (i : ℕ) → Few (saidIn s i)
-  few-in i = few i (part s (start i) 18) (start i)
+  few-in i = few (structureIn s) i (part s (start i) 18) (start i)
 
   first-in : NoneButTimings (saidIn s 0)
-  first-in = first-slot (part s (start 0) 18) (start 0)
+  first-in = first-slot (structureIn s) (part s (start 0) 18) (start 0)
 
   pub timings-room : (n : ℕ) → length (timingsOf s n) ≤ n
   timings-room n = omega (arith, turns-at-most heldTiming (λ i. lists (saidIn s i) .timings) 1 (λ i. few-in i .timings) n)
@@ -35,9 +35,9 @@ module _ (s : List ℕ) where
   pairs-room n =
       omega (
         arith,
-        length-append (map (heldPair .wrap 0) (pairsAt s 38 8)) (turns heldPair (λ i. lists (saidIn s i) .pairs) n),
-        length-map (pairsAt s 38 8) (heldPair .wrap 0),
-        pairs-at-most s 38 8,
+        length-append (map (heldPair .wrap 0) (eightIn s)) (turns heldPair (λ i. lists (saidIn s i) .pairs) n),
+        length-map (eightIn s) (heldPair .wrap 0),
+        pairs-at-most (structureIn s) s 38 8,
         turns-later heldPair (λ i. lists (saidIn s i) .pairs) 6 (first-in .pairs) (λ i. few-in i .pairs) n,
       )
 

@@ -79,12 +79,13 @@ fn read_slots(s: &[u8]) -> StandardReading
     requires { ⌜ (length (now s) ≡ 128) × (beforeSlots (now s) ≡ Verdict.Accepted) ⌝ }
     ensures { λ r. ⌜ r ≡ standardOf (now (s .entry)) ⌝ }
 {
+    let structure = standard_parts::structure_of(s[19]);
     let mut standards = [BLANK_STANDARD; 26];
     let mut listed = 0;
     let mut k: usize = 0;
     while k < 8 {
         let a = 38 + 2 * k;
-        if let Pair::Listed(pair) = standard_parts::pair_of(s[a], s[a + 1]) {
+        if let Pair::Listed(pair) = standard_parts::pair_of(structure, s[a], s[a + 1]) {
             standards[listed] = HeldPair { pair, slot: 0 };
             listed += 1;
         }
@@ -113,7 +114,7 @@ fn read_slots(s: &[u8]) -> StandardReading
                 let mut k: usize = 0;
                 while k < 6 {
                     let a = 5 + 2 * k;
-                    if let Pair::Listed(pair) = standard_parts::pair_of(t[a], t[a + 1]) {
+                    if let Pair::Listed(pair) = standard_parts::pair_of(structure, t[a], t[a + 1]) {
                         standards[listed] = HeldPair { pair, slot };
                         listed += 1;
                     }

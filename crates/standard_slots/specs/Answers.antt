@@ -1,9 +1,9 @@
 -- What the answers of the code say, and that at most one says a thing.
 use mathlib.Core.List.{List, [], _∷_}
 use mathlib.Core.Path.{_≡_, refl, sym, ap, _∙_}
-use Prim.Native.Nat.{ℕ}
+use Rattle.standard_record.specs.declared.StandardTiming.{StandardTiming}
 use Rattle.standard_record.specs.declared.WhitePoint.{WhitePoint}
-use Rattle.standard_slots.specs.Said.{Said, refusal, nothing, timing, pairs, points, described, pairsIn}
+use Rattle.standard_slots.specs.Said.{Said, refusal, nothing, timing, pairs, points, described}
 use Rattle.standard_slots.specs.declared.Points.{Points}
 use Rattle.standard_slots.specs.declared.Points.the-variants.{None, One, Two}
 use Rattle.standard_slots.specs.declared.Slot.{Slot}
@@ -13,14 +13,14 @@ ofPoints None = []
 ofPoints (One p) = p ∷ []
 ofPoints (Two p q) = p ∷ q ∷ []
 
--- of the slot t; its pairs are read where they are listed
-abbrev pub ofSlot : List ℕ → Slot → Said
-ofSlot t (Slot.Refused n) = refusal n
-ofSlot t Slot.Nothing = nothing
-ofSlot t (Slot.Timing d) = timing d
-ofSlot t Slot.Pairs = pairs (pairsIn t)
-ofSlot t (Slot.Points ps) = points (ofPoints ps)
-ofSlot t (Slot.Described d) = described d
+-- with these pairs, which are read where they are listed
+abbrev pub ofSlot : List StandardTiming → Slot → Said
+ofSlot ps (Slot.Refused n) = refusal n
+ofSlot ps Slot.Nothing = nothing
+ofSlot ps (Slot.Timing d) = timing d
+ofSlot ps Slot.Pairs = pairs ps
+ofSlot ps (Slot.Points ws) = points (ofPoints ws)
+ofSlot ps (Slot.Described d) = described d
 
 -- ---- at most one answer says x: it is had back from what it says
 
@@ -42,13 +42,13 @@ two-back None = refl
 two-back (One p) = refl
 two-back (Two p q) = refl
 
-back : (t : List ℕ) (r : Slot) → slotOf (ofSlot t r) ≡ r
-back t (Slot.Refused n) = refl
-back t Slot.Nothing = refl
-back t (Slot.Timing d) = refl
-back t Slot.Pairs = refl
-back t (Slot.Points ps) = ap Slot.Points (two-back ps)
-back t (Slot.Described d) = refl
+back : (ps : List StandardTiming) (r : Slot) → slotOf (ofSlot ps r) ≡ r
+back ps (Slot.Refused n) = refl
+back ps Slot.Nothing = refl
+back ps (Slot.Timing d) = refl
+back ps Slot.Pairs = refl
+back ps (Slot.Points ws) = ap Slot.Points (two-back ws)
+back ps (Slot.Described d) = refl
 
-pub one-slot : (t : List ℕ) (x : Said) (r r′ : Slot) → ofSlot t r ≡ x → ofSlot t r′ ≡ x → r ≡ r′
-one-slot t x r r′ e e′ = sym (back t r) ∙ ap slotOf (e ∙ sym e′) ∙ back t r′
+pub one-slot : (ps : List StandardTiming) (x : Said) (r r′ : Slot) → ofSlot ps r ≡ x → ofSlot ps r′ ≡ x → r ≡ r′
+one-slot ps x r r′ e e′ = sym (back ps r) ∙ ap slotOf (e ∙ sym e′) ∙ back ps r′

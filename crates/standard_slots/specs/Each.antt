@@ -13,14 +13,15 @@ use Rattle.standard_timing.specs.Timing.{clockIn, timingIn}
 use Rattle.standard_timing.specs.declared.Timed.{Timed}
 use Rattle.standard_parts.specs.Descriptors.{closingRefusal, rangeRefusal}
 use Rattle.standard_parts.specs.Text.{allSpaces, isPadded}
+use Rattle.standard_parts.specs.declared.Structure.{Structure}
 use Rattle.standard_slots.specs.Said.{Said, refusal, nothing, timing, pairs, points, described, unless, pairsIn, pointsIn, textIn, rangeIn, rawOf, ofTimed, byTag, said}
 
 -- P holds of each answer that the 18 bytes t from `at` on may give; a refusal's number is 3 to 6
-pub record Each (P : Said → Type 0) (t : List ℕ) (at : ℕ) : Type 0 where
+pub record Each (P : Said → Type 0) (σ : Structure) (t : List ℕ) (at : ℕ) : Type 0 where
   pub refused : (n : ℕ) → 3 ≤ n → n ≤ 6 → P (refusal n)
   pub none : P nothing
   pub timed : (d : DetailedTiming) → P (timing d)
-  pub listed : P (pairs (pairsIn t))
+  pub listed : P (pairs (pairsIn σ t))
   pub pointed : P (points (pointsIn t))
   pub name : P (described (Descriptor.Name (textIn t at)))
   pub text : P (described (Descriptor.Text (textIn t at)))
@@ -33,7 +34,7 @@ pub either : {A : Type 0} (P : A → Type 0) (b : Bool) {x y : A} → P x → P 
 either P true h k = h
 either P false h k = k
 
-module _ (P : Said → Type 0) (t : List ℕ) (at : ℕ) (e : Each P t at) where
+module _ (P : Said → Type 0) (σ : Structure) (t : List ℕ) (at : ℕ) (e : Each P σ t at) where
   -- of x behind a test, by the number that the test gives
   abbrev Behind : Said → ℕ → Type 0
   Behind x n = P (unless n x)
@@ -51,9 +52,9 @@ module _ (P : Said → Type 0) (t : List ℕ) (at : ℕ) (e : Each P t at) where
       either (Behind x) (eqb kind 0) (closing x b spaces h)
       (either (Behind x) (eqb kind 2) (either (Behind x) (eqb b 0) h (e .refused 4 (omega arith) (omega arith))) h)
 
-  by-tag : (tag : Tag) → P (byTag tag t at)
+  by-tag : (tag : Tag) → P (byTag σ tag t at)
   by-tag Tag.Dummy = e .none
-  by-tag Tag.Pairs = closing (pairs (pairsIn t)) (t ! 17) true (e .listed)
+  by-tag Tag.Pairs = closing (pairs (pairsIn σ t)) (t ! 17) true (e .listed)
   by-tag Tag.Points = closing (points (pointsIn t)) (t ! 15) (allSpaces (part t 16 2)) (e .pointed)
   by-tag Tag.Name = padding (described (Descriptor.Name (textIn t at))) (isPadded (part t 5 13) (textIn t at .len)) (e .name)
   by-tag Tag.Range = ranges (described (rangeIn t at)) (t ! 10) (t ! 11) (allSpaces (part t 12 6)) (e .range)
@@ -65,7 +66,7 @@ module _ (P : Said → Type 0) (t : List ℕ) (at : ℕ) (e : Each P t at) where
   by-timing (Timed.Is d) = e .timed d
   by-timing Timed.Over = e .refused 6 (omega arith) (omega arith)
 
-  pub each : (i : ℕ) → P (said i t at)
+  pub each : (i : ℕ) → P (said σ i t at)
   unfolding said
   each i =
       either P (eqb (clockIn t) 0) (either P (eqb i 0) (e .refused 3 (omega arith) (omega arith)) (by-tag (tagOf (t ! 3))))

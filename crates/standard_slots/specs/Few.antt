@@ -11,6 +11,7 @@ use Rattle.fixed.specs.Gather.{gather-at-most}
 use Rattle.standard_timing.specs.Timing.{clockIn, timingIn}
 use Rattle.standard_timing.specs.declared.Timed.{Timed}
 use Rattle.standard_parts.specs.Timings.{pairOf}
+use Rattle.standard_parts.specs.declared.Structure.{Structure}
 use Rattle.standard_parts.specs.declared.Pair.{Pair}
 use Rattle.standard_parts.specs.declared.Point.{Point}
 use Rattle.standard_slots.specs.Said.{Said, refusal, nothing, timing, pairs, points, described, Lists, lists, ofPair, pairAt, pairsAt, ofPoint, pointAt, ofTimed, said}
@@ -30,9 +31,9 @@ pair-at-most (Pair.Listed v) = omega arith
 pair-at-most Pair.Skipped = omega arith
 
 -- n pairs at the most
-pub pairs-at-most : (s : List ℕ) (k n : ℕ) → length (pairsAt s k n) ≤ n
-pairs-at-most s k n =
-    omega (arith, gather-at-most (λ i. pairAt s (k + 2 * i)) 1 (λ i. pair-at-most (pairOf (s ! (k + 2 * i)) (s ! (k + 2 * i + 1)))) n)
+pub pairs-at-most : (σ : Structure) (s : List ℕ) (k n : ℕ) → length (pairsAt σ s k n) ≤ n
+pairs-at-most σ s k n =
+    omega (arith, gather-at-most (λ i. pairAt σ s (k + 2 * i)) 1 (λ i. pair-at-most (pairOf σ (s ! (k + 2 * i)) (s ! (k + 2 * i + 1)))) n)
 
 point-at-most : (p : Point) → length (ofPoint p) ≤ 1
 point-at-most (Point.Listed v) = omega arith
@@ -43,13 +44,13 @@ points-at-most p q = omega (arith, length-append (ofPoint p) (ofPoint q), point-
 
 -- ---- the slot
 
-pub few : (i : ℕ) (t : List ℕ) (at : ℕ) → Few (said i t at)
-few i t at =
-    each Few t at (record {
+pub few : (σ : Structure) (i : ℕ) (t : List ℕ) (at : ℕ) → Few (said σ i t at)
+few σ i t at =
+    each Few σ t at (record {
       refused = λ n h k. omega arith;
       none = omega arith;
       timed = λ d. omega arith;
-      listed = omega (arith, pairs-at-most t 5 6);
+      listed = omega (arith, pairs-at-most σ t 5 6);
       pointed = omega (arith, points-at-most (pointAt t 5) (pointAt t 10));
       name = omega arith;
       text = omega arith;
@@ -83,9 +84,9 @@ pub record NoneButTimings (x : Said) : Type 0 where
   pub points : lists x .points ≡ []
   pub descriptors : lists x .descriptors ≡ []
 
-pub first-slot : (t : List ℕ) (at : ℕ) → NoneButTimings (said 0 t at)
+pub first-slot : (σ : Structure) (t : List ℕ) (at : ℕ) → NoneButTimings (said σ 0 t at)
 unfolding said
-first-slot t at = go (eqb (clockIn t) 0) (timingIn t)
+first-slot σ t at = go (eqb (clockIn t) 0) (timingIn t)
   where
     go : (b : Bool) (x : Timed) → NoneButTimings (cond b (refusal 3) (ofTimed x))
     go true x = record { pairs = refl; points = refl; descriptors = refl }

@@ -1,4 +1,5 @@
--- What a slot says, tag by tag: what is judged, and what is listed. t is its 18 bytes, `at` the place of the first of them in the block.
+-- What a slot says, tag by tag: what is judged, and what is listed. t is its 18 bytes, `at` the place of the first of them in the block, σ the
+-- structure.
 use Prim.Native.Nat.{ℕ, _+_, _*_}
 use mathlib.Core.Bool.{true, cond}
 use mathlib.Core.List.{List, [], _∷_, _++_}
@@ -19,6 +20,7 @@ use Rattle.standard_parts.specs.Color.{pointOf}
 use Rattle.standard_parts.specs.Timings.{pairOf}
 use Rattle.standard_parts.specs.Descriptors.{limitsOf, secondaryOf, closingRefusal, rangeRefusal}
 use Rattle.standard_parts.specs.Text.{textLength, allSpaces, isPadded}
+use Rattle.standard_parts.specs.declared.Structure.{Structure}
 use Rattle.standard_parts.specs.declared.Pair.{Pair}
 use Rattle.standard_parts.specs.declared.Point.{Point}
 
@@ -42,16 +44,16 @@ ofPair (Pair.Listed v) = v ∷ []
 ofPair Pair.Skipped = []
 
 -- the pair at k
-abbrev pub pairAt : List ℕ → ℕ → List StandardTiming
-pairAt s k = ofPair (pairOf (s ! k) (s ! (k + 1)))
+abbrev pub pairAt : Structure → List ℕ → ℕ → List StandardTiming
+pairAt σ s k = ofPair (pairOf σ (s ! k) (s ! (k + 1)))
 
 -- n pairs from k on
-abbrev pub pairsAt : List ℕ → ℕ → ℕ → List StandardTiming
-pairsAt s k n = gather (λ i. pairAt s (k + 2 * i)) n
+abbrev pub pairsAt : Structure → List ℕ → ℕ → ℕ → List StandardTiming
+pairsAt σ s k n = gather (λ i. pairAt σ s (k + 2 * i)) n
 
 -- of an fa slot
-abbrev pub pairsIn : List ℕ → List StandardTiming
-pairsIn t = pairsAt t 5 6
+abbrev pub pairsIn : Structure → List ℕ → List StandardTiming
+pairsIn σ t = pairsAt σ t 5 6
 
 abbrev pub ofPoint : Point → List WhitePoint
 ofPoint (Point.Listed v) = v ∷ []
@@ -93,19 +95,19 @@ ofTimed (Timed.Is d) = timing d
 ofTimed Timed.Over = refusal 6
 
 -- one without goes by its tag
-abbrev pub byTag : Tag → List ℕ → ℕ → Said
-byTag Tag.Dummy t at = nothing
-byTag Tag.Pairs t at = unless (closingRefusal (t ! 17) true) (pairs (pairsIn t))
-byTag Tag.Points t at = unless (closingRefusal (t ! 15) (allSpaces (part t 16 2))) (points (pointsIn t))
-byTag Tag.Name t at = textAs Name t at
-byTag Tag.Range t at = unless (rangeRefusal (t ! 10) (t ! 11) (allSpaces (part t 12 6))) (described (rangeIn t at))
-byTag Tag.Text t at = textAs Text t at
-byTag Tag.Serial t at = textAs Serial t at
-byTag Tag.Raw t at = described (rawOf (t ! 3) (record { start = at + 5; len = 13 }))
+abbrev pub byTag : Structure → Tag → List ℕ → ℕ → Said
+byTag σ Tag.Dummy t at = nothing
+byTag σ Tag.Pairs t at = unless (closingRefusal (t ! 17) true) (pairs (pairsIn σ t))
+byTag σ Tag.Points t at = unless (closingRefusal (t ! 15) (allSpaces (part t 16 2))) (points (pointsIn t))
+byTag σ Tag.Name t at = textAs Name t at
+byTag σ Tag.Range t at = unless (rangeRefusal (t ! 10) (t ! 11) (allSpaces (part t 12 6))) (described (rangeIn t at))
+byTag σ Tag.Text t at = textAs Text t at
+byTag σ Tag.Serial t at = textAs Serial t at
+byTag σ Tag.Raw t at = described (rawOf (t ! 3) (record { start = at + 5; len = 13 }))
 
 -- slot i of 0 to 3: the first must be a timing; of another, the fourth byte is the tag
-unfoldable pub said : ℕ → List ℕ → ℕ → Said
-said i t at = cond (eqb (clockIn t) 0) (cond (eqb i 0) (refusal 3) (byTag (tagOf (t ! 3)) t at)) (ofTimed (timingIn t))
+unfoldable pub said : Structure → ℕ → List ℕ → ℕ → Said
+said σ i t at = cond (eqb (clockIn t) 0) (cond (eqb i 0) (refusal 3) (byTag σ (tagOf (t ! 3)) t at)) (ofTimed (timingIn t))
 
 -- ---- what is listed: each slot feeds one list at most
 

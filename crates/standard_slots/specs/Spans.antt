@@ -13,6 +13,7 @@ use Rattle.standard_record.specs.declared.Held.{Held}
 use Rattle.standard_record.specs.declared.Descriptor.{Descriptor}
 use Rattle.standard_record.specs.declared.SecondaryTiming.{SecondaryTiming}
 use Rattle.standard_parts.specs.Descriptors.{secondaryOf}
+use Rattle.standard_parts.specs.declared.Structure.{Structure}
 use Rattle.standard_parts.specs.TextEnds.{text-ends}
 use Rattle.standard_slots.specs.Said.{lists, textIn, rangeIn, rawOf, said}
 use Rattle.standard_slots.specs.Each.{either, each}
@@ -74,9 +75,9 @@ module _ (s : List ℕ) (at n : ℕ) (room : at + 18 ≤ n) (whole : at + 18 ≤
   sound-raw : Sound s (rawOf (part s at 18 ! 3) (record { start = at + 5; len = 13 })) n
   sound-raw = either (λ d. Sound s d n) (ltb (part s at 18 ! 3) 0x10) (omega arith) (omega arith)
 
-  pub sound-slot : (k i : ℕ) → Sounds s (map (held .wrap k) (lists (said i (part s at 18) at) .descriptors)) n
-  sound-slot k =
-      each (λ x. Sounds s (map (held .wrap k) (lists x .descriptors)) n) (part s at 18) at (record {
+  pub sound-slot : (σ : Structure) (k i : ℕ) → Sounds s (map (held .wrap k) (lists (said σ i (part s at 18) at) .descriptors)) n
+  sound-slot σ k =
+      each (λ x. Sounds s (map (held .wrap k) (lists x .descriptors)) n) σ (part s at 18) at (record {
         refused = λ r h l. tt;
         none = tt;
         timed = λ d. tt;

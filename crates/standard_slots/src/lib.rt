@@ -1,5 +1,5 @@
 // What one slot of a block says: it is judged and read by the same look, but for the pairs of an fa slot, which are read where they are
-// listed. Past the end of t every byte is 0.
+// listed: so the answer is one for every structure σ. Past the end of t every byte is 0.
 use standard_parts::Point;
 use standard_record::Descriptor;
 use standard_record::DetailedTiming;
@@ -9,8 +9,9 @@ use steps::Span;
 use tags::Tag;
 ghost use mathlib.Core.Path.{_≡_};
 ghost use mathlib.Core.List.{List};
-ghost use Prim.Native.Nat.{ℕ};
-ghost use Rattle.standard_slots.specs.Said.{unless, pointAt, pointsIn, textIn, paddingRefusal, rangeIn, rawOf, byTag, said};
+ghost use Rattle.standard_record.specs.declared.StandardTiming.{StandardTiming};
+ghost use Rattle.standard_parts.specs.declared.Structure.{Structure};
+ghost use Rattle.standard_slots.specs.Said.{unless, pairsIn, pointAt, pointsIn, textIn, paddingRefusal, rangeIn, rawOf, byTag, said};
 ghost use Rattle.standard_slots.specs.Answers.{ofPoints, ofSlot};
 
 // The white points of an fb slot.
@@ -121,7 +122,7 @@ fn raw_of(tag: u8, run: Span) -> Descriptor
 
 // `number` is that of a refusal, or 0.
 fn unless(number: u8, x: Slot) -> Slot
-    ensures { λ r. ⌜ ((t : List ℕ) → ofSlot t r ≡ unless number (ofSlot t x)) ⌝ }
+    ensures { λ r. ⌜ ((ps : List StandardTiming) → ofSlot ps r ≡ unless number (ofSlot ps x)) ⌝ }
 {
     if number == 0 {
         x
@@ -131,7 +132,7 @@ fn unless(number: u8, x: Slot) -> Slot
 }
 
 fn by_tag(tag: Tag, t: &[u8], at: u8) -> Slot
-    ensures { λ r. ⌜ ofSlot (now (t .entry)) r ≡ byTag tag (now (t .entry)) at ⌝ }
+    ensures { λ r. ⌜ ((σ : Structure) → ofSlot (pairsIn σ (now (t .entry))) r ≡ byTag σ tag (now (t .entry)) at) ⌝ }
 {
     match tag {
         Tag::Dummy => Slot::Nothing,
@@ -186,7 +187,7 @@ fn by_tag(tag: Tag, t: &[u8], at: u8) -> Slot
 }
 
 pub fn said(i: u8, t: &[u8], at: u8) -> Slot
-    ensures { λ r. ⌜ ofSlot (now (t .entry)) r ≡ said i (now (t .entry)) at ⌝ }
+    ensures { λ r. ⌜ ((σ : Structure) → ofSlot (pairsIn σ (now (t .entry))) r ≡ said σ i (now (t .entry)) at) ⌝ }
 {
     if standard_timing::clock_in(t) == 0 {
         if i == 0 {

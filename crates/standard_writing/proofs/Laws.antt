@@ -20,22 +20,22 @@ use Rattle.standard_record.specs.declared.StandardTiming.{StandardTiming}
 use Rattle.standard_record.specs.declared.WhitePoint.{WhitePoint}
 use Rattle.standard_record.specs.declared.Descriptor.{Descriptor}
 use Rattle.standard_record.specs.declared.StandardRecord.{StandardRecord}
+use Rattle.standard_parts.specs.declared.Structure.{Structure}
 use Rattle.standard_slots.specs.Said.{Lists, four}
 use Rattle.write_leaf.specs.Bytes.{Bytes}
 use Rattle.write_leaf.specs.Digits.{both-hold}
 use Rattle.write_pairs.specs.Run.{run, run-at-most}
-use Rattle.write_pairs.specs.Pairs.{most, All, ReadFrom, WritesPairs}
-use Rattle.write_pairs.specs.Laws.{all-read}
+use Rattle.write_pairs.specs.Pairs.{most, WritesPairs}
 use Rattle.write_slots.specs.Writes.{WritesPoints}
 use Rattle.write_block.specs.Taken.{Rest, first, next, without, eight, rest, taken}
 use Rattle.write_block.specs.Slots.{either}
-use Rattle.write_block.specs.Given.{slot-bytes, slot-holds, used-up, front-reads, eight-is, first-timing}
+use Rattle.write_block.specs.Given.{slot-bytes, slot-holds, used-up, front-reads, eight-read, first-timing}
 use Rattle.write_block.specs.Shown.{frontOf, shown}
 use Rattle.write_block.specs.Gives.{Gives, Written, written, no-block}
 use Rattle.write_block.specs.Built.{Fit, body-is, whole, gives}
 use Rattle.write_block.specs.Canonical.{blockOf}
 use Rattle.write_head.specs.Front.{ReadsFront, WritesFront}
-use Rattle.write_block.specs.Holds.{Holds, WritesSlot, slotFrom}
+use Rattle.write_block.specs.Holds.{structureFrom, Holds, WritesSlot, slotFrom}
 use Rattle.write_block.specs.Leaves.{pairsSlot, slot-pairs, slot-points}
 use Rattle.fixed.specs.Gather.{when}
 use Rattle.standard_record.specs.declared.HeldPair.{HeldPair}
@@ -68,24 +68,24 @@ pub none-left : {A : Type 0} (xs : List A) → length xs ≤ 0 → xs ≡ []
 none-left [] h = refl
 none-left (x ∷ xs) h = absurd (omega arith)
 
-pub turned : (lent : List ℕ) (at after : Place) (fits : Bool) (bytes : List ℕ) {l m : Lists} → l ≡ m → WritesSlot lent m fits bytes → Moved m at after
-    → Turned lent at after fits bytes l
-turned lent at after fits bytes e w m = subst (Turned lent at after fits bytes) (sym e) (w, m)
+pub turned : (σ : Structure) (lent : List ℕ) (at after : Place) (fits : Bool) (bytes : List ℕ) {l m : Lists} → l ≡ m → WritesSlot σ lent m fits bytes → Moved m at after
+    → Turned σ lent at after fits bytes l
+turned σ lent at after fits bytes e w m = subst (Turned σ lent at after fits bytes) (sym e) (w, m)
 
 -- some pairs
-pub some-pairs : (lent : List ℕ) (at after : Place) (ps : List StandardTiming) (fits : Bool) (bytes slot : List ℕ) (many : ℕ) → WritesPairs ps fits bytes many
+pub some-pairs : (σ : Structure) (lent : List ℕ) (at after : Place) (ps : List StandardTiming) (fits : Bool) (bytes slot : List ℕ) (many : ℕ) → WritesPairs σ ps fits bytes many
     → 0 < many → length ps ≤ 6 → slot ≡ pairsSlot (take 12 bytes) → Moved (four [] ps [] []) at after → (ws : List WhitePoint) (ds : List Descriptor)
-    → Turned lent at after fits slot (first [] ps ws ds)
-some-pairs lent at after [] fits bytes slot many w some few e m ws ds = absurd (omega (arith, w .count))
-some-pairs lent at after (p ∷ ps) fits bytes slot many w some few e m ws ds = (rw e (slot-pairs p ps few lent fits bytes many w), m)
+    → Turned σ lent at after fits slot (first [] ps ws ds)
+some-pairs σ lent at after [] fits bytes slot many w some few e m ws ds = absurd (omega (arith, w .count))
+some-pairs σ lent at after (p ∷ ps) fits bytes slot many w some few e m ws ds = (rw e (slot-pairs p ps few σ lent fits bytes many w), m)
 
-pub pairs-turned : (lent : List ℕ) (at : Place) (t : Turn) (ps : List StandardTiming) (fits : Bool) (bytes : List ℕ) (many : ℕ) → WritesPairs ps fits bytes many
+pub pairs-turned : (σ : Structure) (lent : List ℕ) (at : Place) (t : Turn) (ps : List StandardTiming) (fits : Bool) (bytes : List ℕ) (many : ℕ) → WritesPairs σ ps fits bytes many
     → 0 < many → length ps ≤ 6 → t .slot .fits ≡ fits → t .slot .bytes ≡ pairsSlot (take 12 bytes)
     → t .after ≡ record { timed = at .timed; listed = at .listed + many; pointed = at .pointed; entered = at .entered }
-    → (ws : List WhitePoint) (ds : List Descriptor) → Turned lent at (t .after) (t .slot .fits) (t .slot .bytes) (first [] ps ws ds)
-pairs-turned lent at t ps fits bytes many w some few f b a ws ds =
-    subst (λ z. Turned lent at (t .after) z (t .slot .bytes) (first [] ps ws ds)) (sym f)
-    (some-pairs lent at (t .after) ps fits bytes (t .slot .bytes) many w some few b
+    → (ws : List WhitePoint) (ds : List Descriptor) → Turned σ lent at (t .after) (t .slot .fits) (t .slot .bytes) (first [] ps ws ds)
+pairs-turned σ lent at t ps fits bytes many w some few f b a ws ds =
+    subst (λ z. Turned σ lent at (t .after) z (t .slot .bytes) (first [] ps ws ds)) (sym f)
+    (some-pairs σ lent at (t .after) ps fits bytes (t .slot .bytes) many w some few b
     (rw a (record { timed = omega arith; listed = omega (arith, w .count); pointed = omega arith; entered = omega arith })) ws ds)
 
 -- whether there are pairs, by the first of them
@@ -120,8 +120,8 @@ at-most-two Points.None = omega arith
 at-most-two (Points.One p) = omega arith
 at-most-two (Points.Two p q) = omega arith
 
-pub no-entry : (lent : List ℕ) (fits : Bool) (t : List ℕ) (ps : Points) → ofPoints ps ≡ [] → WritesPoints ps fits t → WritesSlot lent (four [] [] [] []) fits t
-no-entry lent fits t ps e w = subst (λ l. WritesSlot lent (four [] [] l []) fits t) e (slot-points lent fits t ps w)
+pub no-entry : (σ : Structure) (lent : List ℕ) (fits : Bool) (t : List ℕ) (ps : Points) → ofPoints ps ≡ [] → WritesPoints σ ps fits t → WritesSlot σ lent (four [] [] [] []) fits t
+no-entry σ lent fits t ps e w = subst (λ l. WritesSlot σ lent (four [] [] l []) fits t) e (slot-points σ lent fits t ps w)
 
 -- ---- the end of a list
 
@@ -245,17 +245,17 @@ module _ (r : StandardRecord) (lent : List ℕ) where
   pub none-fit : FitSoFar r lent 0 true
   none-fit = record { sound = λ h i l. absurd (omega arith); complete = λ b g. refl }
 
-  pub one-fits : (i : ℕ) (fits f : Bool) (t : List ℕ) → i < 4 → FitSoFar r lent i fits → WritesSlot lent (taken (seen r) i) f t → FitSoFar r lent (i + 1) (fits && f)
+  pub one-fits : (i : ℕ) (fits f : Bool) (t : List ℕ) → i < 4 → FitSoFar r lent i fits → WritesSlot (structureFrom (seen r)) lent (taken (seen r) i) f t → FitSoFar r lent (i + 1) (fits && f)
   one-fits i fits f t h s w = record {
     sound = λ e j l.
         let b = both-hold fits f e in
-        go j (eqb j i) refl (s .sound (b .0) j) (subst (λ t. Holds lent t (taken (seen r) i)) (w .made) (w .sound (b .1))) l;
+        go j (eqb j i) refl (s .sound (b .0) j) (subst (λ t. Holds (structureFrom (seen r)) lent t (taken (seen r) i)) (w .made) (w .sound (b .1))) l;
     complete = λ b g.
         rw (s .complete b g) (w .complete (part b (start i) 18) (slot-bytes b r lent g i h) (slot-holds b r lent g i h));
   }
     where
-      go : (j : ℕ) (z : Bool) → eqb j i ≡ z → (j < i → Holds lent (slotFrom lent (taken (seen r) j)) (taken (seen r) j))
-          → Holds lent (slotFrom lent (taken (seen r) i)) (taken (seen r) i) → j < i + 1 → Holds lent (slotFrom lent (taken (seen r) j)) (taken (seen r) j)
+      go : (j : ℕ) (z : Bool) → eqb j i ≡ z → (j < i → Holds (structureFrom (seen r)) lent (slotFrom lent (taken (seen r) j)) (taken (seen r) j))
+          → Holds (structureFrom (seen r)) lent (slotFrom lent (taken (seen r) i)) (taken (seen r) i) → j < i + 1 → Holds (structureFrom (seen r)) lent (slotFrom lent (taken (seen r) j)) (taken (seen r) j)
       go j true e before here l = rw (eqb-true j i e) here
       go j false e before here l = before (omega (arith, eqb-false j i e))
 
@@ -295,13 +295,13 @@ module _ (r : StandardRecord) where
   abbrev x : Seen
   x = seen r
 
-  pub front-fits : (ff pf : Bool) (head bytes : List ℕ) (many : ℕ) → WritesFront (frontOf x) ff head → WritesPairs (eight x) pf bytes many → FrontFit r (ff && pf)
+  pub front-fits : (ff pf : Bool) (head bytes : List ℕ) (many : ℕ) → WritesFront (frontOf x) ff head → WritesPairs (structureFrom x) (eight x) pf bytes many → FrontFit r (ff && pf)
   front-fits ff pf head bytes many f p = record {
     front = λ h. subst (λ s. ReadsFront s (frontOf x)) (f .made) (f .sound (both-hold ff pf h .0));
     pairs = λ h. p .sound (both-hold ff pf h .1);
     complete = λ b lent g.
         rw (f .complete b (g .bytes) (front-reads b r lent g))
-        (p .complete (subst (All ReadFrom) (sym (eight-is b r lent g)) (all-read b (g .bytes) 38 8)));
+        (p .complete (eight-read b r lent g));
   }
 
   pub block-fits : (lent : List ℕ) (ff sf : Bool) → FrontFit r ff → SlotsFit r lent sf → (ff && (ltb 0 (length (taken x 0 .timings)) && sf)) ≡ true → Fit r lent

@@ -13,23 +13,23 @@ use Rattle.write_block.specs.Shown.{frontOf}
 use Rattle.write_block.specs.Built.{Fit}
 use Rattle.write_pairs.specs.Pairs.{pairsBytes, All, Back}
 use Rattle.write_head.specs.Front.{frontBytes, ReadsFront}
-use Rattle.write_block.specs.Holds.{Holds, slotFrom}
+use Rattle.write_block.specs.Holds.{structureFrom, Holds, slotFrom}
 
 -- the first n slots
 pub record FitSoFar (r : StandardRecord) (lent : List ℕ) (n : ℕ) (fits : Bool) : Type 0 where
-  pub sound : fits ≡ true → (i : ℕ) → i < n → Holds lent (slotFrom lent (taken (seen r) i)) (taken (seen r) i)
+  pub sound : fits ≡ true → (i : ℕ) → i < n → Holds (structureFrom (seen r)) lent (slotFrom lent (taken (seen r) i)) (taken (seen r) i)
   pub complete : (b : List ℕ) → Gives b r lent → fits ≡ true
 
 -- the four slots, and nothing is left
 pub record SlotsFit (r : StandardRecord) (lent : List ℕ) (fits : Bool) : Type 0 where
-  pub sound : fits ≡ true → (i : ℕ) → i < 4 → Holds lent (slotFrom lent (taken (seen r) i)) (taken (seen r) i)
+  pub sound : fits ≡ true → (i : ℕ) → i < 4 → Holds (structureFrom (seen r)) lent (slotFrom lent (taken (seen r) i)) (taken (seen r) i)
   pub used : fits ≡ true → Empty (rest (seen r) 4)
   pub complete : (b : List ℕ) → Gives b r lent → fits ≡ true
 
 -- the front and the eight pairs
 pub record FrontFit (r : StandardRecord) (fits : Bool) : Type 0 where
   pub front : fits ≡ true → ReadsFront (frontBytes (frontOf (seen r))) (frontOf (seen r))
-  pub pairs : fits ≡ true → All Back (eight (seen r))
+  pub pairs : fits ≡ true → All (Back (structureFrom (seen r))) (eight (seen r))
   pub complete : (b lent : List ℕ) → Gives b r lent → fits ≡ true
 
 -- the front, the eight pairs, the slots and the number of extensions, as the writer lays them

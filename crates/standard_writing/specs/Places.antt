@@ -5,6 +5,7 @@ use mathlib.Core.Bool.{Bool, true}
 use mathlib.Core.List.{List}
 use lib.ListN.{length, drop}
 use Rattle.standard_record.specs.Seen.{Seen}
+use Rattle.standard_parts.specs.declared.Structure.{Structure}
 use Rattle.standard_slots.specs.Said.{Lists}
 use Rattle.standard_slots.specs.Answers.{ofPoints}
 use Rattle.standard_slots.specs.declared.Points.{Points}
@@ -36,8 +37,8 @@ pub record Moved (l : Lists) (at after : Place) : Type 0 where
   pub entered : after .entered ≡ at .entered + length (l .descriptors)
 
 -- a slot that takes these entries is written, and the lists stand behind them
-abbrev pub Turned : List ℕ → Place → Place → Bool → List ℕ → Lists → Type 0
-Turned lent at after fits bytes l = WritesSlot lent l fits bytes × Moved l at after
+abbrev pub Turned : Structure → List ℕ → Place → Place → Bool → List ℕ → Lists → Type 0
+Turned σ lent at after fits bytes l = WritesSlot σ lent l fits bytes × Moved l at after
 
 abbrev pub many : Points → ℕ
 many ps = length (ofPoints ps)

@@ -1,5 +1,6 @@
 // The block of a standard record: the front, the eight pairs, then slot after slot what the next entries of the four lists make.
 // A list is used up in order: a record whose entries stand otherwise has some left at the end, and is refused.
+use standard_parts::Structure;
 use standard_record::DetailedTiming;
 use standard_record::StandardRecord;
 use standard_record::StandardTimings;
@@ -19,6 +20,8 @@ ghost use Rattle.write_block.specs.Taken.{first, taken, eight};
 ghost use Rattle.write_block.specs.Holds.{slotFrom};
 ghost use Rattle.write_block.specs.Leaves.{pairsSlot};
 ghost use Rattle.fixed.specs.Gather.{gather};
+ghost use Rattle.standard_parts.specs.Structure.{structureOf};
+ghost use Rattle.standard_parts.specs.declared.Structure.{Structure};
 ghost use Rattle.standard_slots.specs.Said.{four};
 ghost use Rattle.standard_slots.specs.Answers.{ofPoints};
 ghost use Rattle.write_next.specs.Next.{ofDescriptor};
@@ -77,7 +80,7 @@ fn turn_of(slot: SlotBytes, timed: usize, listed: usize, pointed: usize, entered
 
 fn timing_turn(d: DetailedTiming, at: Place) -> Turn
     requires { ⌜ Small at ⌝ }
-    ensures { λ t. ⌜ ((lent : List ℕ) → Turned lent at (t .after) (t .slot .fits) (t .slot .bytes) (four (d ∷ []) [] [] [])) ⌝ }
+    ensures { λ t. ⌜ ((σ : Structure) (lent : List ℕ) → Turned σ lent at (t .after) (t .slot .fits) (t .slot .bytes) (four (d ∷ []) [] [] [])) ⌝ }
 {
     turn_of(
         write_timing::timing_bytes(d),
@@ -105,7 +108,7 @@ fn pairs_turn(six: PairsBytes, at: Place) -> Turn
 // White points, a descriptor or nothing.
 fn other_turn(ps: Points, d: NextDescriptor, lent: &[u8], at: Place) -> Turn
     requires { ⌜ Small at ⌝ }
-    ensures { λ t. ⌜ Turned (now (lent .entry)) at (t .after) (t .slot .fits) (t .slot .bytes) (first [] [] (ofPoints ps) (ofDescriptor d)) ⌝ }
+    ensures { λ t. ⌜ ((σ : Structure) → Turned σ (now (lent .entry)) at (t .after) (t .slot .fits) (t .slot .bytes) (first [] [] (ofPoints ps) (ofDescriptor d))) ⌝ }
 {
     let timed = at.timed;
     let listed = at.listed;
@@ -197,8 +200,14 @@ fn timing_first(r: StandardRecord) -> bool
 
 // The four slots, behind the pairs that are used up; whether every entry fits and none is left. The lists are local arrays: in the loop no call takes
 // one, but where a slot holds pairs.
-fn fill_slots(block: &mut [u8], r: StandardRecord, lent: &[u8], listed: usize) -> bool
-    requires { ⌜ (length (now block) ≡ 128) × (listed ≡ length (eight (seen r))) ⌝ }
+fn fill_slots(
+    block: &mut [u8],
+    structure: Structure,
+    r: StandardRecord,
+    lent: &[u8],
+    listed: usize,
+) -> bool
+    requires { ⌜ (length (now block) ≡ 128) × (listed ≡ length (eight (seen r))) × (structure ≡ structureOf (r .version .revision)) ⌝ }
     ensures { λ t. ⌜ SlotsFit r (now (lent .entry)) t × (length (now (block .exit)) ≡ 128) × (take 126 (now (block .exit)) ≡ take 54 (now (block .entry)) ++ gather (λ i. slotFrom (now (lent .entry)) (taken (seen r) i)) 4) ⌝ }
 {
     let timings = r.timings.detailed.items;
@@ -232,7 +241,7 @@ fn fill_slots(block: &mut [u8], r: StandardRecord, lent: &[u8], listed: usize) -
                         items: pairs,
                         len: r.timings.standard.len,
                     };
-                    pairs_turn(write_pairs::pairs_bytes(list, listed, n), at)
+                    pairs_turn(write_pairs::pairs_bytes(structure, list, listed, n), at)
                 } else {
                     let most = r.color.points.len;
                     let p = write_next::next_point(points[pointed % 6], pointed, most, n);
@@ -259,8 +268,8 @@ fn fill_slots(block: &mut [u8], r: StandardRecord, lent: &[u8], listed: usize) -
 }
 
 // The front and the eight pairs; whether they fit, and how many pairs are used up.
-fn fill_front(block: &mut [u8], r: StandardRecord) -> Begun
-    requires { ⌜ length (now block) ≡ 128 ⌝ }
+fn fill_front(block: &mut [u8], structure: Structure, r: StandardRecord) -> Begun
+    requires { ⌜ (length (now block) ≡ 128) × (structure ≡ structureOf (r .version .revision)) ⌝ }
     ensures { λ t. ⌜ FrontFit r (t .fits) × (t .listed ≡ length (eight (seen r))) × (length (now (block .exit)) ≡ 128) × (take 54 (now (block .exit)) ≡ frontBytes (frontOf (seen r)) ++ pairsBytes 8 (eight (seen r))) ⌝ }
 {
     let product = r.product;
@@ -272,7 +281,7 @@ fn fill_front(block: &mut [u8], r: StandardRecord) -> Begun
     let head = front.bytes;
     lay(block, 0, &head);
     let standard = r.timings.standard;
-    let eight = write_pairs::pairs_bytes(standard, 0, 0);
+    let eight = write_pairs::pairs_bytes(structure, standard, 0, 0);
     let pairs = eight.bytes;
     lay(block, 38, &pairs);
     Begun {
@@ -286,8 +295,9 @@ fn fill(block: &mut [u8], r: StandardRecord, lent: &[u8]) -> bool
     requires { ⌜ length (now block) ≡ 128 ⌝ }
     ensures { λ t. ⌜ Filled r (now (lent .entry)) t (now (block .exit)) ⌝ }
 {
-    let begun = fill_front(block, r);
-    let slots = fill_slots(block, r, lent, begun.listed);
+    let structure = standard_parts::structure_of(r.version.revision);
+    let begun = fill_front(block, structure, r);
+    let slots = fill_slots(block, structure, r, lent, begun.listed);
     block[126] = r.extensions;
     block[127] = std::num::wrapping_sub_u8(0, sums::byte_sum(&block[0..127]));
     write_leaf::both(begun.fits, write_leaf::both(timing_first(r), slots))

@@ -15,12 +15,15 @@ use Rattle.standard_record.specs.Seen.{Seen, seen, shows as holds}
 use Rattle.standard_record.specs.Held.{heldPair, heldPoint, heldTiming, held}
 use Rattle.standard_record.specs.declared.StandardRecord.{StandardRecord}
 use Rattle.standard_record.specs.declared.DetailedTiming.{DetailedTiming}
+use Rattle.shared_record.specs.declared.Version.{Version}
 use Rattle.standard_record.specs.declared.Verdict.the-variants.{Accepted}
+use Rattle.standard_parts.specs.Structure.{structureOf}
+use Rattle.standard_parts.specs.declared.Structure.{Structure}
 use Rattle.standard_head.specs.Head.{productIn, colorsIn}
 use Rattle.standard_verdict.specs.Verdict.{beforeSlots}
 use Rattle.standard_slots.specs.Said.{Said, refusal, nothing, timing, pairs, points, described, lists, pairsAt, said}
-use Rattle.standard_reading.specs.Slots.{start, saidIn, judge, judged}
-use Rattle.standard_reading.specs.Block.{timingsOf, pairsOf, pointsOf, descriptorsOf, plain}
+use Rattle.standard_reading.specs.Slots.{start, structureIn, saidIn, judge, judged}
+use Rattle.standard_reading.specs.Block.{timingsOf, eightIn, pairsOf, pointsOf, descriptorsOf, plain}
 use Rattle.standard_reading.specs.Judged.{end-is-verdict}
 use Rattle.standard_reading.specs.Room.{fits, accepted}
 use Rattle.write_leaf.specs.Bytes.{Bytes}
@@ -35,7 +38,7 @@ use Rattle.write_block.specs.Shown.{shown, worded, heldWords, frontOf}
 use Rattle.write_block.specs.Canonical.{eightOf, slotOf, body, blockOf}
 use Rattle.write_block.specs.Gives.{Gives}
 use Rattle.write_block.specs.Taken.{Empty, eight, rest, taken}
-use Rattle.write_block.specs.Holds.{entriesOf, Holds, slotFrom}
+use Rattle.write_block.specs.Holds.{entriesOf, structureFrom, Holds, slotFrom}
 use Rattle.write_block.specs.Turns.{gather-same, turns-same, turns-map, all-turns}
 use Rattle.write_block.specs.Slots.{all-turns as lists-are}
 use Rattle.write_block.specs.Leaves.{pairs-length, pairs-behind}
@@ -72,14 +75,17 @@ front-reads f g s h = record {
 -- each part fits, and the lists are used up
 pub record Fit (r : StandardRecord) (lent : List ℕ) : Type 0 where
   pub front : ReadsFront (frontBytes (frontOf (seen r))) (frontOf (seen r))
-  pub pairs : All Back (eight (seen r))
-  pub slots : (i : ℕ) → i < 4 → Holds lent (slotFrom lent (taken (seen r) i)) (taken (seen r) i)
+  pub pairs : All (Back (structureFrom (seen r))) (eight (seen r))
+  pub slots : (i : ℕ) → i < 4 → Holds (structureFrom (seen r)) lent (slotFrom lent (taken (seen r) i)) (taken (seen r) i)
   pub first : 0 < length (taken (seen r) 0 .timings)
   pub used : Empty (rest (seen r) 4)
 
 module _ (r : StandardRecord) (lent : List ℕ) (fit : Fit r lent) where
   abbrev x : Seen
   x = seen r
+
+  abbrev σ : Structure
+  σ = structureFrom x
 
   -- the lists are what the slots take
   record Lists : Type 0 where
@@ -149,27 +155,30 @@ module _ (r : StandardRecord) (lent : List ℕ) (fit : Fit r lent) where
 
   -- ---- what is read of it
 
-  at-slot : (i : ℕ) → i < 4 → shows (parts i) (said i (parts i) 0) ≡ these (entriesOf lent (taken x i))
+  at-slot : (i : ℕ) → i < 4 → shows (parts i) (said σ i (parts i) 0) ≡ these (entriesOf lent (taken x i))
   at-slot zero h = go (taken x 0 .timings) (fit .first) (fit .slots 0 h .reads .shown)
     where
       go : (ts : List DetailedTiming) → 0 < length ts
-          → shows (parts 0) (said 1 (parts 0) 0) ≡ these (entries ts (taken x 0 .pairs) (taken x 0 .points) (map (words lent) (taken x 0 .descriptors)))
-          → shows (parts 0) (said 0 (parts 0) 0) ≡ these (entries ts (taken x 0 .pairs) (taken x 0 .points) (map (words lent) (taken x 0 .descriptors)))
+          → shows (parts 0) (said σ 1 (parts 0) 0) ≡ these (entries ts (taken x 0 .pairs) (taken x 0 .points) (map (words lent) (taken x 0 .descriptors)))
+          → shows (parts 0) (said σ 0 (parts 0) 0) ≡ these (entries ts (taken x 0 .pairs) (taken x 0 .points) (map (words lent) (taken x 0 .descriptors)))
       go [] l e = absurd (omega arith)
-      go (d ∷ ts) l e = rw (said-timing 0 1 (parts 0) 0 (shown-timing 1 (parts 0) d ts _ _ _ e .0)) e
-  at-slot (suc i) h = rw (said-later i (parts (suc i)) 0) (fit .slots (suc i) h .reads .shown)
+      go (d ∷ ts) l e = rw (said-timing σ 0 1 (parts 0) 0 (shown-timing σ 1 (parts 0) d ts _ _ _ e .0)) e
+  at-slot (suc i) h = rw (said-later σ i (parts (suc i)) 0) (fit .slots (suc i) h .reads .shown)
+
+  front : ReadsFront b (frontOf x)
+  front = subst (λ s. ReadsFront s (frontOf x)) (sym (with-rest _)) (front-reads (frontOf x) (frontOf x) _ (fit .front))
+
+  structure-is : structureIn b ≡ σ
+  structure-is = ap (λ (v : Version). structureOf (v .revision)) (front .version)
 
   in-block : (i : ℕ) → i < 4 → shows b (saidIn b i) ≡ these (entriesOf lent (taken x i))
-  in-block i h = shown-in-block b (start i) i ∙ ap (λ t. shows t (said i t 0)) (block-slot i h) ∙ at-slot i h
+  in-block i h = rw structure-is (shown-in-block σ b (start i) i ∙ ap (λ t. shows t (said σ i t 0)) (block-slot i h) ∙ at-slot i h)
 
   accepted-slot : (i : ℕ) → i < 4 → judge (saidIn b i) (start i) ≡ Accepted
   accepted-slot i h = is-accepted b (saidIn b i) (start i) _ (in-block i h)
 
   said-is : (i : ℕ) → i < 4 → entriesOf b (lists (saidIn b i)) ≡ entriesOf lent (taken x i)
   said-is i h = these-one (sym (not-refused b (saidIn b i) (start i) (accepted-slot i h)) ∙ in-block i h)
-
-  front : ReadsFront b (frontOf x)
-  front = subst (λ s. ReadsFront s (frontOf x)) (sym (with-rest _)) (front-reads (frontOf x) (frontOf x) _ (fit .front))
 
   verdict : judged b 4 ≡ Accepted
   unfolding judged beforeSlots
@@ -185,16 +194,16 @@ module _ (r : StandardRecord) (lent : List ℕ) (fit : Fit r lent) where
         accepted-slot 3 (omega arith),
       )
 
-  pairs-behind-front : (t : List ℕ) → pairsAt (body (shown lent x) ++ t) 38 8 ≡ eight x
+  pairs-behind-front : (t : List ℕ) → pairsAt σ (body (shown lent x) ++ t) 38 8 ≡ eight x
   pairs-behind-front t =
       let rest : List ℕ = gather parts 4 ++ (x .extensions ∷ t) in
-      ap (λ s. pairsAt s 38 8) (with-rest t)
-      ∙ ap (λ n. pairsAt (frontBytes (frontOf x) ++ (pairsBytes 8 (eight x) ++ rest)) n 8) (sym front-size)
-      ∙ pairs-behind (frontBytes (frontOf x)) (pairsBytes 8 (eight x) ++ rest) 8
-      ∙ pairs-back 8 (eight x) rest (run-at-most heldPair 0 8 (x .standard)) (fit .pairs)
+      ap (λ s. pairsAt σ s 38 8) (with-rest t)
+      ∙ ap (λ n. pairsAt σ (frontBytes (frontOf x) ++ (pairsBytes 8 (eight x) ++ rest)) n 8) (sym front-size)
+      ∙ pairs-behind σ (frontBytes (frontOf x)) (pairsBytes 8 (eight x) ++ rest) 8
+      ∙ pairs-back σ 8 (eight x) rest (run-at-most heldPair 0 8 (x .standard)) (fit .pairs)
 
-  pairs-are : pairsAt b 38 8 ≡ eight x
-  pairs-are = pairs-behind-front _
+  pairs-are : eightIn b ≡ eight x
+  pairs-are = rw structure-is (pairs-behind-front _)
 
   last-but-one : (t : List ℕ) → (body (shown lent x) ++ t) ! 126 ≡ x .extensions
   last-but-one t =

@@ -14,6 +14,7 @@ use Rattle.standard_record.specs.declared.DetailedTiming.{DetailedTiming}
 use Rattle.standard_record.specs.declared.StandardTiming.{StandardTiming}
 use Rattle.standard_record.specs.declared.WhitePoint.{WhitePoint}
 use Rattle.standard_record.specs.declared.Descriptor.{Descriptor}
+use Rattle.standard_parts.specs.declared.Structure.{Structure}
 use Rattle.standard_slots.specs.declared.Points.{Points}
 use Rattle.standard_reading.specs.Slots.{start}
 use Rattle.write_leaf.specs.Bytes.{Bytes}
@@ -34,38 +35,38 @@ use Rattle.write_block.specs.Shown.{Shown, shown, frontOf}
 use Rattle.write_block.specs.Canonical.{body, blockOf}
 use Rattle.write_block.specs.Gives.{Gives}
 use Rattle.write_block.specs.Taken.{first, next, eight, rest, taken}
-use Rattle.write_block.specs.Holds.{Holds, slotFrom}
+use Rattle.write_block.specs.Holds.{structureFrom, Holds, slotFrom}
 use Rattle.write_block.specs.Leaves.{slot-size, slot-shows}
-use Rattle.write_block.specs.Given.{same, eight-is, used-up, slot-bytes, slot-holds, first-timing, front-reads}
+use Rattle.write_block.specs.Given.{same, eight-read, used-up, slot-bytes, slot-holds, first-timing, front-reads}
 use Rattle.write_block.specs.Built.{Fit, body-is, gives}
 
 -- ---- a slot
 
-module _ (lent t : List ℕ) (b : Bytes t) where
+module _ (σ : Structure) (lent t : List ℕ) (b : Bytes t) where
   slot-again : (ts : List DetailedTiming) (ps : List StandardTiming) (ws : List WhitePoint) (ds : List Descriptor)
       → length ts ≤ 1 → length ps ≤ 6 → length ws ≤ 2 → length ds ≤ 1
-      → Holds lent t (first ts ps ws ds) → Again Bytes (Holds lent) (slotFrom lent) (first ts ps ws ds)
+      → Holds σ lent t (first ts ps ws ds) → Again Bytes (Holds σ lent) (slotFrom lent) (first ts ps ws ds)
   unfolding slotBytes timingBytes
   slot-again (d ∷ []) ps ws ds nt np nw nd h =
-      let r = shown-timing 1 t d [] [] [] [] (h .reads .shown) in
+      let r = shown-timing σ 1 t d [] [] [] [] (h .reads .shown) in
       let a = timing-again d t b (record { clock = r .0; is = r .1 }) in
-      record { bytes = a .bytes; reads = record { inside = tt; reads = record { size = refl; shown = timing-shown 1 (timingBytes d) d (a .reads .clock) (a .reads .is) } } }
+      record { bytes = a .bytes; reads = record { inside = tt; reads = record { size = refl; shown = timing-shown σ 1 (timingBytes d) d (a .reads .clock) (a .reads .is) } } }
   slot-again (d ∷ e ∷ ts) ps ws ds nt np nw nd h = absurd (omega arith)
   slot-again [] (p ∷ ps) ws ds nt np nw nd h =
-      let read : All ReadFrom (p ∷ ps) = subst (All ReadFrom) (shown-pairs 1 t p ps [] [] [] (h .reads .shown)) (all-read t b 5 6) in
+      let read : All (ReadFrom σ) (p ∷ ps) = subst (All (ReadFrom σ)) (shown-pairs σ 1 t p ps [] [] [] (h .reads .shown)) (all-read σ t b 5 6) in
       record {
         bytes = each-before (0 ∷ 0 ∷ 0 ∷ 0xfa ∷ 0 ∷ []) (pairsBytes 6 (p ∷ ps) ++ 0x0a ∷ []) (omega arith)
             (append-bytes (pairsBytes 6 (p ∷ ps)) (0x0a ∷ []) (pairs-are-bytes 6 (p ∷ ps)) (each-byte (0x0a ∷ []) (omega arith)));
-        reads = record { inside = tt; reads = record { size = slot-size p ps np; shown = slot-shows p ps np (pairs-again (p ∷ ps) read) } };
+        reads = record { inside = tt; reads = record { size = slot-size p ps np; shown = slot-shows p ps np σ (pairs-again σ (p ∷ ps) read) } };
       }
-  slot-again [] [] (w ∷ []) ds nt np nw nd h = let a = points-again (Points.One w) t b (h .reads) in record { bytes = a .bytes; reads = record { inside = tt; reads = a .reads } }
-  slot-again [] [] (w ∷ v ∷ []) ds nt np nw nd h = let a = points-again (Points.Two w v) t b (h .reads) in record { bytes = a .bytes; reads = record { inside = tt; reads = a .reads } }
+  slot-again [] [] (w ∷ []) ds nt np nw nd h = let a = points-again σ (Points.One w) t b (h .reads) in record { bytes = a .bytes; reads = record { inside = tt; reads = a .reads } }
+  slot-again [] [] (w ∷ v ∷ []) ds nt np nw nd h = let a = points-again σ (Points.Two w v) t b (h .reads) in record { bytes = a .bytes; reads = record { inside = tt; reads = a .reads } }
   slot-again [] [] (w ∷ v ∷ u ∷ ws) ds nt np nw nd h = absurd (omega arith)
   slot-again [] [] [] (d ∷ []) nt np nw nd h =
-      let a = descriptor-again lent d t b (h .inside .0, h .reads) in
+      let a = descriptor-again σ lent d t b (h .inside .0, h .reads) in
       record { bytes = a .bytes; reads = record { inside = (a .reads .0, tt); reads = a .reads .1 } }
   slot-again [] [] [] (d ∷ e ∷ ds) nt np nw nd h = absurd (omega arith)
-  slot-again [] [] [] [] nt np nw nd h = let a = points-again Points.None t b (h .reads) in record { bytes = a .bytes; reads = record { inside = tt; reads = a .reads } }
+  slot-again [] [] [] [] nt np nw nd h = let a = points-again σ Points.None t b (h .reads) in record { bytes = a .bytes; reads = record { inside = tt; reads = a .reads } }
 
 -- ---- the block
 
@@ -77,11 +78,11 @@ module _ (b : List ℕ) (r : StandardRecord) (lent : List ℕ) (g : Gives b r le
   abbrev x : Seen
   x = seen r
 
-  each-slot : (i : ℕ) → i < 4 → Again Bytes (Holds lent) (slotFrom lent) (taken x i)
+  each-slot : (i : ℕ) → i < 4 → Again Bytes (Holds (structureFrom x) lent) (slotFrom lent) (taken x i)
   unfolding next
   each-slot i h =
       let a = rest x i in
-      slot-again lent (part b (start i) 18) (slot-bytes b r lent g i h)
+      slot-again (structureFrom x) lent (part b (start i) 18) (slot-bytes b r lent g i h)
       (run heldTiming (i + 1) 1 (a .timings)) (run heldPair (i + 1) 6 (a .pairs)) (run heldPoint (i + 1) 2 (a .points)) (run held (i + 1) 1 (a .descriptors))
       (run-at-most heldTiming (i + 1) 1 (a .timings)) (run-at-most heldPair (i + 1) 6 (a .pairs)) (run-at-most heldPoint (i + 1) 2 (a .points)) (run-at-most held (i + 1) 1 (a .descriptors))
       (slot-holds b r lent g i h)
@@ -89,7 +90,7 @@ module _ (b : List ℕ) (r : StandardRecord) (lent : List ℕ) (g : Gives b r le
   pub fit : Fit r lent
   fit = record {
     front = front-again (frontOf x) b (g .bytes) (front-reads b r lent g) .reads;
-    pairs = pairs-again (eight x) (subst (All ReadFrom) (sym (eight-is b r lent g)) (all-read b (g .bytes) 38 8));
+    pairs = pairs-again (structureFrom x) (eight x) (eight-read b r lent g);
     slots = λ i h. each-slot i h .reads;
     first = omega (arith, ap length (first-timing b r lent g .1));
     used = used-up b r lent g;

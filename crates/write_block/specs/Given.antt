@@ -19,14 +19,17 @@ use Rattle.standard_record.specs.declared.Verdict.the-variants.{Accepted, Refus
 use Rattle.standard_timing.specs.Timing.{clockIn}
 use Rattle.standard_verdict.specs.Verdict.{must, _then_, isHeader, beforeSlots}
 use Rattle.standard_verdict.specs.Laws.{then-first}
-use Rattle.standard_slots.specs.Said.{Said, refusal, nothing, timing, pairs, points, described, lists, pairsAt, said}
+use Rattle.standard_parts.specs.Structure.{structureOf}
+use Rattle.standard_parts.specs.declared.Structure.{Structure}
+use Rattle.standard_slots.specs.Said.{Said, refusal, nothing, timing, pairs, points, described, lists, said}
 use Rattle.standard_slots.specs.Few.{Few, few, pairs-at-most}
-use Rattle.standard_reading.specs.Slots.{start, saidIn, judge, judged}
-use Rattle.standard_reading.specs.Block.{plain}
+use Rattle.standard_reading.specs.Slots.{start, structureIn, saidIn, judge, judged}
+use Rattle.standard_reading.specs.Block.{eightIn, plain}
 use Rattle.standard_reading.specs.Judged.{end-is-verdict, accepted-has-128}
 use Rattle.standard_reading.specs.Room.{fits, accepted}
 use Rattle.write_pairs.specs.Run.{run-own}
-use Rattle.write_pairs.specs.Pairs.{All}
+use Rattle.write_pairs.specs.Pairs.{All, ReadFrom}
+use Rattle.write_pairs.specs.Laws.{all-read}
 use Rattle.write_leaf.specs.Bytes.{Bytes}
 use Rattle.write_leaf.specs.Again.{part-bytes}
 use Rattle.write_head.specs.Front.{Front, ReadsFront}
@@ -35,28 +38,28 @@ use Rattle.write_slots.specs.Laws.{shown-in-block, first-slot-timing, shown-tim
 use Rattle.write_block.specs.Shown.{Shown, shown, worded, heldWords, frontOf}
 use Rattle.write_block.specs.Gives.{Gives, SpansInside}
 use Rattle.write_block.specs.Taken.{Empty, eight, rest, taken}
-use Rattle.write_block.specs.Holds.{entriesOf, Holds}
+use Rattle.write_block.specs.Holds.{entriesOf, structureFrom, Holds}
 use Rattle.write_block.specs.Turns.{turns-later, other-later, drop-own, later, turns-map}
 use Rattle.write_block.specs.Slots.{front, Ahead, taken-is, ahead}
 
 -- ---- the first slot and the others
 
 -- a slot with a clock says the same wherever it stands
-pub said-timing : (i j : ℕ) (t : List ℕ) (at : ℕ) → 0 < clockIn t → said i t at ≡ said j t at
+pub said-timing : (σ : Structure) (i j : ℕ) (t : List ℕ) (at : ℕ) → 0 < clockIn t → said σ i t at ≡ said σ j t at
 unfolding said
-said-timing i j t at h = rw (ne-eqb (clockIn t) 0 (omega arith))
+said-timing σ i j t at h = rw (ne-eqb (clockIn t) 0 (omega arith))
 
-pub said-later : (i : ℕ) (t : List ℕ) (at : ℕ) → said (suc i) t at ≡ said 1 t at
+pub said-later : (σ : Structure) (i : ℕ) (t : List ℕ) (at : ℕ) → said σ (suc i) t at ≡ said σ 1 t at
 unfolding said
-said-later i t at = rw (eqb·suc-zero i)
+said-later σ i t at = rw (eqb·suc-zero i)
 
 -- as it would in a slot that is not the first
-pub shown-later : (i : ℕ) (t : List ℕ) (l : Entries) → shows t (said i t 0) ≡ these l → shows t (said 1 t 0) ≡ these l
-shown-later zero t l h =
-    let f = first-slot-timing t l h in
-    let c = shown-timing 0 t (f .0) [] [] [] [] (h ∙ ap these (f .1)) in
-    rw (said-timing 1 0 t 0 (c .0)) h
-shown-later (suc i) t l h = rw (← said-later i t 0) h
+pub shown-later : (σ : Structure) (i : ℕ) (t : List ℕ) (l : Entries) → shows t (said σ i t 0) ≡ these l → shows t (said σ 1 t 0) ≡ these l
+shown-later σ zero t l h =
+    let f = first-slot-timing σ t l h in
+    let c = shown-timing σ 0 t (f .0) [] [] [] [] (h ∙ ap these (f .1)) in
+    rw (said-timing σ 1 0 t 0 (c .0)) h
+shown-later σ (suc i) t l h = rw (← said-later σ i t 0) h
 
 -- ---- an accepted block
 
@@ -107,14 +110,21 @@ module _ (b : List ℕ) (r : StandardRecord) (lent : List ℕ) (g : Gives b r le
   pub same : shown b (plain b) ≡ shown lent x
   same = sym (ap (λ e. shown b (seen e)) (accepted b (g .accepted)) ∙ ap (shown b) (holds (plain b) (fits b))) ∙ g .same
 
+  -- the record's structure is the block's
+  same-structure : structureIn b ≡ structureFrom x
+  same-structure = ap (λ (s : Shown). structureOf (s .front .version .revision)) same
+
   few-in : (i : ℕ) → Few (saidIn b i)
-  few-in i = few i (part b (start i) 18) (start i)
+  few-in i = few (structureIn b) i (part b (start i) 18) (start i)
 
-  standard-is : x .standard ≡ map (heldPair .wrap 0) (pairsAt b 38 8) ++ later heldPair (λ i. lists (saidIn b i) .pairs) 0 4
-  standard-is = sym (ap (λ (s : Shown). s .standard) same) ∙ ap (λ l. map (heldPair .wrap 0) (pairsAt b 38 8) ++ l) (turns-later heldPair (λ i. lists (saidIn b i) .pairs) 4)
+  standard-is : x .standard ≡ map (heldPair .wrap 0) (eightIn b) ++ later heldPair (λ i. lists (saidIn b i) .pairs) 0 4
+  standard-is = sym (ap (λ (s : Shown). s .standard) same) ∙ ap (λ l. map (heldPair .wrap 0) (eightIn b) ++ l) (turns-later heldPair (λ i. lists (saidIn b i) .pairs) 4)
 
-  pub eight-is : eight x ≡ pairsAt b 38 8
-  eight-is = rw standard-is (run-own heldPair 0 8 (pairsAt b 38 8) _ (pairs-at-most b 38 8) (other-later heldPair (λ i. lists (saidIn b i) .pairs) 0 0 4 (omega arith)))
+  eight-is : eight x ≡ eightIn b
+  eight-is = rw standard-is (run-own heldPair 0 8 (eightIn b) _ (pairs-at-most (structureIn b) b 38 8) (other-later heldPair (λ i. lists (saidIn b i) .pairs) 0 0 4 (omega arith)))
+
+  pub eight-read : All (ReadFrom (structureFrom x)) (eight x)
+  eight-read = rw (eight-is, ← same-structure) (all-read (structureIn b) b (g .bytes) 38 8)
 
   ahead-of : (i k : ℕ) → i + k ≡ 4 → Ahead lent b (saidIn b) i k (rest x i)
   unfolding rest
@@ -122,7 +132,7 @@ module _ (b : List ℕ) (r : StandardRecord) (lent : List ℕ) (g : Gives b r le
       let four : k ≡ 4 = omega arith in
       rw four (record {
         timings = sym (ap (λ (s : Shown). s .detailed) same) ∙ turns-later heldTiming (λ i. lists (saidIn b i) .timings) 4;
-        pairs = rw (eight-is, standard-is) (drop-own heldPair 0 (pairsAt b 38 8) _);
+        pairs = rw (eight-is, standard-is) (drop-own heldPair 0 (eightIn b) _);
         points = sym (ap (λ (s : Shown). s .points) same) ∙ turns-later heldPoint (λ i. lists (saidIn b i) .points) 4;
         descriptors =
             sym (ap (λ (s : Shown). s .descriptors) same)
@@ -158,10 +168,10 @@ module _ (b : List ℕ) (r : StandardRecord) (lent : List ℕ) (g : Gives b r le
     abbrev slot : List ℕ
     slot = part b (start i) 18
 
-    shown-taken : shows slot (said i slot 0) ≡ these (entriesOf lent (taken x i))
+    shown-taken : shows slot (said (structureIn b) i slot 0) ≡ these (entriesOf lent (taken x i))
     shown-taken =
         let k : i + suc (3 - i) ≡ 4 = omega arith in
-        sym (shown-in-block b (start i) i)
+        sym (shown-in-block (structureIn b) b (start i) i)
         ∙ not-refused b (saidIn b i) (start i) (judged-each b 4 i h (sym (end-is-verdict b) ∙ g .accepted))
         ∙ ap these (sym (taken-is lent b (saidIn b) few-in i (3 - i) (rest x i) (ahead-of i (suc (3 - i)) k)))
 
@@ -174,12 +184,15 @@ module _ (b : List ℕ) (r : StandardRecord) (lent : List ℕ) (g : Gives b r le
         (all-split (λ h. SpanInside (h .descriptor) (length lent)) (map (held .wrap (i + 1)) (taken x i .descriptors)) (rest x (suc i) .descriptors)
         (rw (front x i .descriptors) at (inside-rest i)) .0)
 
-    pub slot-holds : Holds lent slot (taken x i)
-    slot-holds = record { inside = inside-taken; reads = record { size = simp (length-take, length-drop) (omega (arith, accepted-has-128 b (g .accepted))); shown = shown-later i slot _ shown-taken } }
+    pub slot-holds : Holds (structureFrom x) lent slot (taken x i)
+    slot-holds = rw (← same-structure) (record {
+      inside = inside-taken;
+      reads = record { size = simp (length-take, length-drop) (omega (arith, accepted-has-128 b (g .accepted))); shown = shown-later (structureIn b) i slot _ shown-taken };
+    })
 
   -- the first of them has a timing
   pub first-timing : (d : DetailedTiming) × (taken x 0 .timings ≡ d ∷ [])
-  first-timing = let f = first-slot-timing _ _ (shown-taken 0 (omega arith)) in (f .0, ap (λ (l : Entries). l .timings) (f .1))
+  first-timing = let f = first-slot-timing _ _ _ (shown-taken 0 (omega arith)) in (f .0, ap (λ (l : Entries). l .timings) (f .1))
 
   pub front-reads : ReadsFront b (frontOf x)
   unfolding judged beforeSlots

@@ -10,6 +10,7 @@ use Rattle.bits.specs.Bytes.{_!_}
 use Rattle.standard_record.specs.declared.DetailedTiming.{DetailedTiming}
 use Rattle.standard_record.specs.declared.StandardTiming.{StandardTiming}
 use Rattle.standard_record.specs.declared.Descriptor.{Descriptor}
+use Rattle.standard_parts.specs.declared.Structure.{Structure}
 use Rattle.standard_slots.specs.Said.{four, pairsAt, said}
 use Rattle.standard_slots.specs.Answers.{ofPoints}
 use Rattle.standard_slots.specs.declared.Points.{Points}
@@ -32,8 +33,8 @@ pairs-length (suc n) [] = omega (arith, pairs-length n [])
 pairs-length (suc n) (p ∷ ps) = omega (arith, pairs-length n ps)
 
 -- pairs further on
-pub pairs-behind : (a s : List ℕ) (n : ℕ) → pairsAt (a ++ s) (length a) n ≡ pairsAt s 0 n
-pairs-behind a s n = gather-same _ _ n (λ i l.
+pub pairs-behind : (σ : Structure) (a s : List ℕ) (n : ℕ) → pairsAt σ (a ++ s) (length a) n ≡ pairsAt σ s 0 n
+pairs-behind σ a s n = gather-same _ _ n (λ i l.
     let e : length a + 2 * i + 1 ≡ length a + (2 * i + 1) = omega arith in
     let z : 0 + 2 * i ≡ 2 * i = omega arith in
     rw (e, getD-append-add a s (2 * i) 0, getD-append-add a s (2 * i + 1) 0, z))
@@ -52,25 +53,25 @@ take-pairs (suc n) m (p ∷ ps) =
 
 -- ---- the kinds
 
-module _ (lent : List ℕ) (fits : Bool) (t : List ℕ) where
-  pub slot-timing : (d : DetailedTiming) → WritesTiming d fits t → WritesSlot lent (four (d ∷ []) [] [] []) fits t
+module _ (σ : Structure) (lent : List ℕ) (fits : Bool) (t : List ℕ) where
+  pub slot-timing : (d : DetailedTiming) → WritesTiming d fits t → WritesSlot σ lent (four (d ∷ []) [] [] []) fits t
   unfolding slotBytes timingBytes
   slot-timing d w = record {
     made = w .made;
-    sound = λ e. record { inside = tt; reads = record { size = ap length (w .made); shown = timing-shown 1 t d (w .sound e .clock) (w .sound e .is) } };
+    sound = λ e. record { inside = tt; reads = record { size = ap length (w .made); shown = timing-shown σ 1 t d (w .sound e .clock) (w .sound e .is) } };
     complete = λ s b h.
-        let r = shown-timing 1 s d [] [] [] [] (h .reads .shown) in
+        let r = shown-timing σ 1 s d [] [] [] [] (h .reads .shown) in
         w .complete s b (record { clock = r .0; is = r .1 });
   }
 
-  pub slot-points : (ps : Points) → WritesPoints ps fits t → WritesSlot lent (four [] [] (ofPoints ps) []) fits t
+  pub slot-points : (ps : Points) → WritesPoints σ ps fits t → WritesSlot σ lent (four [] [] (ofPoints ps) []) fits t
   slot-points ps w = record {
     made = w .made;
     sound = λ e. record { inside = tt; reads = w .sound e };
     complete = λ s b h. w .complete s b (h .reads);
   }
 
-  pub slot-descriptor : (d : Descriptor) → WritesDescriptor lent d fits t → WritesSlot lent (four [] [] [] (d ∷ [])) fits t
+  pub slot-descriptor : (d : Descriptor) → WritesDescriptor σ lent d fits t → WritesSlot σ lent (four [] [] [] (d ∷ [])) fits t
   unfolding slotBytes
   slot-descriptor d w = record {
     made = w .made;
@@ -92,19 +93,19 @@ module _ (p : StandardTiming) (ps : List StandardTiming) (few : length (p ∷ ps
   slot-end : slot ! 17 ≡ 0x0a
   slot-end = getD-at (tagged 0xfa (pairsBytes 6 (p ∷ ps))) 0x0a [] 0 17 (omega (arith, pairs-length 6 (p ∷ ps)))
 
-  pub slot-shows : All Back (p ∷ ps) → shows slot (said 1 slot 0) ≡ these (entries [] (p ∷ ps) [] [])
-  slot-shows h =
-      pairs-shown slot refl refl slot-end
+  pub slot-shows : (σ : Structure) → All (Back σ) (p ∷ ps) → shows slot (said σ 1 slot 0) ≡ these (entries [] (p ∷ ps) [] [])
+  slot-shows σ h =
+      pairs-shown σ slot refl refl slot-end
       ∙ ap (λ l. these (entries [] l [] []))
-      (pairs-behind (0 ∷ 0 ∷ 0 ∷ 0xfa ∷ 0 ∷ []) (pairsBytes 6 (p ∷ ps) ++ 0x0a ∷ []) 6 ∙ pairs-back 6 (p ∷ ps) (0x0a ∷ []) few h)
+      (pairs-behind σ (0 ∷ 0 ∷ 0 ∷ 0xfa ∷ 0 ∷ []) (pairsBytes 6 (p ∷ ps) ++ 0x0a ∷ []) 6 ∙ pairs-back σ 6 (p ∷ ps) (0x0a ∷ []) few h)
 
-  pub slot-pairs : (lent : List ℕ) (fits : Bool) (bytes : List ℕ) (many : ℕ) → WritesPairs (p ∷ ps) fits bytes many
-      → WritesSlot lent (four [] (p ∷ ps) [] []) fits (pairsSlot (take 12 bytes))
+  pub slot-pairs : (σ : Structure) (lent : List ℕ) (fits : Bool) (bytes : List ℕ) (many : ℕ) → WritesPairs σ (p ∷ ps) fits bytes many
+      → WritesSlot σ lent (four [] (p ∷ ps) [] []) fits (pairsSlot (take 12 bytes))
   unfolding slotBytes
-  slot-pairs lent fits bytes many w =
+  slot-pairs σ lent fits bytes many w =
       let made = ap pairsSlot (ap (take 12) (w .made) ∙ take-pairs 6 2 (p ∷ ps)) in
       record {
         made = made;
-        sound = λ e. rw made (record { inside = tt; reads = record { size = slot-size; shown = slot-shows (w .sound e) } });
-        complete = λ s b h. w .complete (rw (shown-pairs 1 s p ps [] [] [] (h .reads .shown)) at (all-read s b 5 6));
+        sound = λ e. rw made (record { inside = tt; reads = record { size = slot-size; shown = slot-shows σ (w .sound e) } });
+        complete = λ s b h. w .complete (rw (shown-pairs σ 1 s p ps [] [] [] (h .reads .shown)) at (all-read σ s b 5 6));
       }

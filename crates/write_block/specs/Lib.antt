@@ -9,6 +9,7 @@ pub mod Slots
 pub mod Leaves
 pub mod Every
 pub mod Given
+pub mod Ratios
 pub mod Built
 pub mod Canon
 pub mod Own

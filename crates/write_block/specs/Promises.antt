@@ -11,9 +11,12 @@ use Rattle.standard_record.specs.declared.StandardRecord.{StandardRecord}
 use Rattle.standard_record.specs.declared.Verdict.the-variants.{Accepted}
 use Rattle.standard_reading.specs.Block.{standardOf}
 use Rattle.write_leaf.specs.Bytes.{Bytes}
+use Rattle.write_pairs.specs.Pairs.{All}
 use Rattle.write_block.specs.Shown.{shown}
 use Rattle.write_block.specs.Canonical.{body, blockOf}
 use Rattle.write_block.specs.Gives.{SpansInside, Gives, NoneGives, Written, wrong-length, no-block, written}
+use Rattle.write_block.specs.Holds.{structureFrom}
+use Rattle.write_block.specs.Ratios.{otherRatio, own-ratios}
 use Rattle.write_block.specs.Canon.{canonical-gives}
 use Rattle.write_block.specs.Own.{own-inside}
 
@@ -67,6 +70,11 @@ module _ {r : StandardRecord} {lent before after : List ℕ} {number : ℕ} wher
   -- a record with a span outside the bytes lent is refused
   pub outside-is-refused : Written r lent before number after → length before ≡ 128 → (SpansInside (seen r .descriptors) (length lent) → ⊥) → number ≡ 11
   outside-is-refused w size out = refused-exactly w .1 size (λ b g. out (g .inside))
+
+  -- so is one with a ratio of another structure: 16:10 below revision 3, 1:1 from it on
+  pub other-ratio-is-refused : Written r lent before number after → length before ≡ 128
+      → (All (λ h. h .pair .ratio ≡ otherRatio (structureFrom (seen r)) → ⊥) (seen r .standard) → ⊥) → number ≡ 11
+  other-ratio-is-refused w size other = refused-exactly w .1 size (λ b g. other (own-ratios b r lent g))
 
 -- the record of every accepted block is written
 pub read-is-written : (b : List ℕ) {before after : List ℕ} {number : ℕ} → Bytes b → standardOf b .end ≡ Accepted

@@ -81,13 +81,15 @@ module _ {A B C D : Type 0} (w : Wrapper A B) (v : Wrapper C D) (f : A → C) (g
   turns-map h zero = refl
   turns-map h (suc n) = map-append g (turns w h n) (map (w .wrap (n + 1)) (h n)) ∙ ap₂ _++_ (turns-map h n) (own-map (n + 1) (h n))
 
+-- P of each entry is Q of each wrapped one
+pub all-wrapped : {A B : Type 0} (w : Wrapper A B) (P : A → Type 0) (Q : B → Type 0) → ((n : ℕ) (a : A) → P a → Q (w .wrap n a))
+    → (n : ℕ) (xs : List A) → All P xs → All Q (map (w .wrap n) xs)
+all-wrapped w P Q q n [] a = tt
+all-wrapped w P Q q n (x ∷ xs) a = (q n x (a .0), all-wrapped w P Q q n xs (a .1))
+
 -- P of the entries of each turn is P of all
 pub all-turns : {A B : Type 0} (w : Wrapper A B) (P : A → Type 0) (Q : B → Type 0) → ((n : ℕ) (a : A) → P a → Q (w .wrap n a))
     → (f : ℕ → List A) (n : ℕ) → ((i : ℕ) → i < n → All P (f i)) → All Q (turns w f n)
 all-turns w P Q q f zero h = tt
 all-turns w P Q q f (suc n) h =
-    all-append Q (turns w f n) (map (w .wrap (n + 1)) (f n)) (all-turns w P Q q f n (λ i l. h i (omega arith))) (each (f n) (h n (omega arith)))
-  where
-    each : (xs : List _) → All P xs → All Q (map (w .wrap (n + 1)) xs)
-    each [] a = tt
-    each (x ∷ xs) a = (q (n + 1) x (a .0), each xs (a .1))
+    all-append Q (turns w f n) (map (w .wrap (n + 1)) (f n)) (all-turns w P Q q f n (λ i l. h i (omega arith))) (all-wrapped w P Q q (n + 1) (f n) (h n (omega arith)))

@@ -28,7 +28,7 @@ use Rattle.standard_timing.specs.Timing.{timingIn}
 use Rattle.standard_parts.specs.Head.{inputOf, imageOf, gammaOf, featuresOf}
 use Rattle.standard_parts.specs.Text.{every}
 use Rattle.standard_parts.specs.Timings.{flagsOf, pairOf}
-use Rattle.standard_head.specs.Head.{productIn, versionIn, displayIn, colorsIn}
+use Rattle.standard_head.specs.Head.{productIn, displayIn, colorsIn}
 use Rattle.standard_verdict.specs.Verdict.{beforeSlots}
 use Rattle.standard_slots.specs.Said.{said, pointAt}
 use Rattle.standard_parts.specs.Descriptors.{closingRefusal}
@@ -51,6 +51,7 @@ use Rattle.write_block.specs.Gives.{NoneGives, Written, wrong-length, no-block,
 use Rattle.write_block.specs.Given.{same}
 use Rattle.write_block.specs.Promises.{refused-if}
 use Rattle.demands.specs.Specimen.{specimen}
+use Rattle.demands.specs.Panels.{ratioBlock}
 
 -- ---- the records
 
@@ -74,11 +75,11 @@ mode width w h rate = record { width = width; ratio = record { width = w; height
 abbrev called : ℕ → ℕ → Descriptor
 called start len = Name (record { start = start; len = len })
 
--- the specimen's front over these lists, each entry beside its slot's number
-unfoldable pub panel : List HeldTiming → List HeldPair → List Held → StandardRecord
-panel ts ps ds = holding (record {
+-- the specimen's front, with this revision, over these lists, each entry beside its slot's number
+unfoldable pub panelOf : ℕ → List HeldTiming → List HeldPair → List Held → StandardRecord
+panelOf revision ts ps ds = holding (record {
   product = productIn specimen;
-  version = versionIn specimen;
+  version = record { version = 1; revision = revision };
   display = displayIn specimen;
   basic = colorsIn specimen;
   points = [];
@@ -88,6 +89,14 @@ panel ts ps ds = holding (record {
   descriptors = ds;
   extensions = 0;
 })
+
+-- with its own
+abbrev pub panel : List HeldTiming → List HeldPair → List Held → StandardRecord
+panel = panelOf 3
+
+-- thirteen bytes of the maker's, the first that are lent
+abbrev unused : ℕ → Held
+unused slot = held .wrap slot (MakerDefined 0 (record { start = 0; len = 13 }))
 
 -- ---- the cases
 
@@ -170,6 +179,20 @@ cases =
     ∷ refusal (panel (first 0 40) [] []) []
     -- a clock that is no multiple of 10,000
     ∷ refusal (panel (first 40000001 40) [] []) []
+    -- 1:1 at revision 2, before the slots and in one
+    ∷ record {
+      given = panelOf 2 (first 40000000 40) (heldPair .wrap 0 (mode 1280 1 1 60) ∷ heldPair .wrap 2 (mode 1920 1 1 60) ∷ []) (unused 3 ∷ unused 4 ∷ []);
+      lent = replicate 13 0x00;
+      before = out 128;
+      number = 0;
+      after = ratioBlock 2 0xc3;
+    }
+    -- 16:10 there, before the slots, and in one
+    ∷ refusal (panelOf 2 (first 40000000 40) (heldPair .wrap 0 (mode 1280 16 10 60) ∷ []) []) []
+    ∷ refusal (panelOf 2 (first 40000000 40) (heldPair .wrap 2 (mode 1920 16 10 60) ∷ []) []) []
+    -- 1:1 at revision 3, before the slots, and in one
+    ∷ refusal (panelOf 3 (first 40000000 40) (heldPair .wrap 0 (mode 1280 1 1 60) ∷ []) []) []
+    ∷ refusal (panelOf 3 (first 40000000 40) (heldPair .wrap 2 (mode 1920 1 1 60) ∷ []) []) []
     ∷ []
 
 -- ---- how a refusal is computed: from what is read of the canonical block
@@ -198,6 +221,11 @@ porch (t ∷ ts) = t .timing .across .front .0
 abbrev clock : List HeldTiming → ℕ
 clock [] = 0
 clock (t ∷ ts) = t .timing .clock
+
+-- the width of the first pair's ratio
+abbrev ratio : List HeldPair → ℕ
+ratio [] = 0
+ratio (p ∷ ps) = p .pair .ratio .width
 
 -- the length of the first name, and the number of its slot
 abbrev letters : List (ℕ × Words) → ℕ
@@ -229,7 +257,7 @@ _also_ : {P Q : Type 0} → P → Q → P × Q
 p also q = (p, q)
 
 pub all-written : All (λ c. Written (c .given) (c .lent) (c .before) (c .number) (c .after)) cases
-unfolding cases careless careful panel specimen seen body frontBytes slotBytes timingBytes filled productIn colorsIn inputOf imageOf gammaOf featuresOf flagsOf standardOf recordOf judged beforeSlots said timingIn acrossOf downOf backPorch tagOf pairOf closingRefusal pointAt pointOf pointBytes
+unfolding cases careless careful panelOf specimen ratioBlock seen body frontBytes slotBytes timingBytes filled productIn colorsIn inputOf imageOf gammaOf featuresOf flagsOf standardOf recordOf judged beforeSlots said timingIn acrossOf downOf backPorch tagOf pairOf closingRefusal pointAt pointOf pointBytes
 all-written =
     written refl (record { bytes = bytes-by specimen refl; accepted = refl; inside = (omega arith, (omega arith, (omega arith, tt))); same = refl }) refl refl
     also written refl (record { bytes = bytes-by careful refl; accepted = refl; inside = (omega arith, tt); same = refl }) refl refl
@@ -244,4 +272,9 @@ all-written =
     also no-block refl (unlike _ _ (λ s. porch (s .detailed)) refl) refl refl
     also no-block refl (unread _ _ refl) refl refl
     also no-block refl (unlike _ _ (λ s. clock (s .detailed)) refl) refl refl
+    also written refl (record { bytes = bytes-by (ratioBlock 2 0xc3) refl; accepted = refl; inside = (omega arith, (omega arith, tt)); same = refl }) refl refl
+    also no-block refl (unlike _ _ (λ s. ratio (s .standard)) refl) refl refl
+    also no-block refl (unlike _ _ (λ s. ratio (s .standard)) refl) refl refl
+    also no-block refl (unlike _ _ (λ s. ratio (s .standard)) refl) refl refl
+    also no-block refl (unlike _ _ (λ s. ratio (s .standard)) refl) refl refl
     also tt

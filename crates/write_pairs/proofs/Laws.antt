@@ -11,6 +11,7 @@ use Rattle.standard_record.specs.Held.{heldPair}
 use Rattle.standard_record.specs.declared.HeldPair.{HeldPair}
 use Rattle.standard_record.specs.declared.StandardTiming.{StandardTiming}
 use Rattle.standard_record.specs.declared.StandardTimings.{StandardTimings}
+use Rattle.standard_parts.specs.declared.Structure.{Structure}
 use Rattle.write_leaf.specs.Digits.{both-hold}
 use Rattle.write_parts.specs.Pair.{pairLow, pairHigh, WritesPair}
 use Rattle.write_pairs.specs.Run.{run, Other, run-more, run-stops}
@@ -46,9 +47,9 @@ last-of P [] x h = (tt, h .0)
 last-of P (y ∷ xs) x h = let r = last-of P xs x (h .1) in ((h .0, r .0), r .1)
 
 -- a run of pairs, and one more
-module _ (ps : List StandardTiming) (fits : Bool) (bytes : List ℕ) (many : ℕ) (w : WritesPairs ps fits bytes many) where
-  pub and-one : (p : StandardTiming) (f : Bool) (a b : ℕ) → WritesPair p f (a, b) → many < 8
-      → WritesPairs (ps ++ p ∷ []) (fits && f) (set (set bytes (2 * many) a) (2 * many + 1) b) (many + 1)
+module _ (σ : Structure) (ps : List StandardTiming) (fits : Bool) (bytes : List ℕ) (many : ℕ) (w : WritesPairs σ ps fits bytes many) where
+  pub and-one : (p : StandardTiming) (f : Bool) (a b : ℕ) → WritesPair σ p f (a, b) → many < 8
+      → WritesPairs σ (ps ++ p ∷ []) (fits && f) (set (set bytes (2 * many) a) (2 * many + 1) b) (many + 1)
   and-one p f a b v room =
       let is : _≡_ {A = ℕ × ℕ} (a, b) (pairLow p, pairHigh p) = v .made in
       let e = ap (λ (s : ℕ × ℕ). s .0) is in
@@ -57,39 +58,39 @@ module _ (ps : List StandardTiming) (fits : Bool) (bytes : List ℕ) (many : ℕ
         made = rw (w .made, w .count, e, g) (sym (more-bytes 8 ps p (omega (arith, w .count))));
         sound = λ h.
             let t = both-hold fits f h in
-            let r : Back p = rw (e, g) at (v .sound (t .1)) in
-            all-append Back ps (p ∷ []) (w .sound (t .0)) (r, tt);
+            let r : Back σ p = rw (e, g) at (v .sound (t .1)) in
+            all-append (Back σ) ps (p ∷ []) (w .sound (t .0)) (r, tt);
         complete = λ h.
-            let t = last-of ReadFrom ps p h in
+            let t = last-of (ReadFrom σ) ps p h in
             let r = t .1 in
             rw (w .complete (t .0)) (v .complete (r .first, r .second) (r .first-is-byte, r .second-is-byte) (r .read));
         count = omega (arith, w .count, length-append ps (p ∷ []));
       }
 
 -- what the loop holds after `many` turns, over the entries from its start on
-pub record SoFar (xs : List HeldPair) (number many : ℕ) (fits : Bool) (bytes : List ℕ) : Type 0 where
+pub record SoFar (σ : Structure) (xs : List HeldPair) (number many : ℕ) (fits : Bool) (bytes : List ℕ) : Type 0 where
   pub all : length (run heldPair number many xs) ≡ many
-  pub writes : WritesPairs (run heldPair number many xs) fits bytes many
+  pub writes : WritesPairs σ (run heldPair number many xs) fits bytes many
 
-pub begun : (xs : List HeldPair) (number : ℕ) → SoFar xs number 0 true (replicate 16 1)
-begun xs number = record { all = refl; writes = record { made = refl; sound = λ h. tt; complete = λ h. refl; count = refl } }
+pub begun : (σ : Structure) (xs : List HeldPair) (number : ℕ) → SoFar σ xs number 0 true (replicate 16 1)
+begun σ xs number = record { all = refl; writes = record { made = refl; sound = λ h. tt; complete = λ h. refl; count = refl } }
 
-module _ {xs : List HeldPair} {number many : ℕ} {fits : Bool} {bytes : List ℕ} (s : SoFar xs number many fits bytes) where
+module _ {σ : Structure} {xs : List HeldPair} {number many : ℕ} {fits : Bool} {bytes : List ℕ} (s : SoFar σ xs number many fits bytes) where
   pub one-more : (z : HeldPair) → many < length xs → many < 8 → getD xs many z .slot ≡ number
-      → (f : Bool) (a b : ℕ) → WritesPair (getD xs many z .pair) f (a, b)
-      → SoFar xs number (many + 1) (fits && f) (set (set bytes (2 * many) a) (2 * many + 1) b)
+      → (f : Bool) (a b : ℕ) → WritesPair σ (getD xs many z .pair) f (a, b)
+      → SoFar σ xs number (many + 1) (fits && f) (set (set bytes (2 * many) a) (2 * many + 1) b)
   one-more z h room own f a b v =
       let e : many + 1 ≡ suc many = omega arith in
       let more = run-more heldPair number many xs z (s .all) h own in
       rw e (record {
         all = rw more (omega (arith, length-append (run heldPair number many xs) (getD xs many z .pair ∷ []), s .all));
-        writes = rw more (rw e at (and-one (run heldPair number many xs) fits bytes many (s .writes) (getD xs many z .pair) f a b v room));
+        writes = rw more (rw e at (and-one σ (run heldPair number many xs) fits bytes many (s .writes) (getD xs many z .pair) f a b v room));
       })
 
-  pub stops : (k : ℕ) → many ≤ k → Other heldPair number (drop many xs) → WritesPairs (run heldPair number k xs) fits bytes many
+  pub stops : (k : ℕ) → many ≤ k → Other heldPair number (drop many xs) → WritesPairs σ (run heldPair number k xs) fits bytes many
   stops k h o = rw (run-stops heldPair number many k xs (s .all) h o) (s .writes)
 
-  pub full : (k : ℕ) → many ≡ k → WritesPairs (run heldPair number k xs) fits bytes many
+  pub full : (k : ℕ) → many ≡ k → WritesPairs σ (run heldPair number k xs) fits bytes many
   full k e = rw (← e) (s .writes)
 
 -- the entry at hand, k places on: there is none, or it is the first of what is left
@@ -108,8 +109,8 @@ module _ (items : List HeldPair) (from end many k number : ℕ) (is : k ≡ from
     another h = rw (drop-cons (drop from (take end items)) many z in-list, is-at) h
 
 -- the run that the loop has stopped at is the one that is asked for
-pub asked : (list : StandardTimings) (from number : ℕ) (fits : Bool) (bytes : List ℕ) (many : ℕ) → length (list .items) ≡ 26
+pub asked : (σ : Structure) (list : StandardTimings) (from number : ℕ) (fits : Bool) (bytes : List ℕ) (many : ℕ) → length (list .items) ≡ 26
     → (end : ℕ) → end ≡ min (list .len) 26 → (limit : ℕ) → limit ≡ most number
-    → WritesPairs (run heldPair number limit (drop from (take end (list .items)))) fits bytes many
-    → WritesPairs (pairsAhead list from number) fits bytes many
-asked list from number fits bytes many size end e limit l w = rw (← take-least (list .len) 26 (list .items) size, ← e, ← l) w
+    → WritesPairs σ (run heldPair number limit (drop from (take end (list .items)))) fits bytes many
+    → WritesPairs σ (pairsAhead list from number) fits bytes many
+asked σ list from number fits bytes many size end e limit l w = rw (← take-least (list .len) 26 (list .items) size, ← e, ← l) w

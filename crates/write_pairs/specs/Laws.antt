@@ -8,6 +8,7 @@ use lib.ListN.{length}
 use Rattle.fixed.specs.Gather.{gather}
 use Rattle.standard_record.specs.declared.StandardTiming.{StandardTiming}
 use Rattle.standard_parts.specs.Timings.{pairOf}
+use Rattle.standard_parts.specs.declared.Structure.{Structure}
 use Rattle.standard_parts.specs.declared.Pair.{Pair}
 use Rattle.standard_parts.specs.declared.Pair.the-variants.{Listed, Skipped}
 use Rattle.standard_slots.specs.Said.{ofPair, pairAt, pairsAt}
@@ -28,27 +29,28 @@ gather-same f g h zero = refl
 gather-same f g h (suc n) = ap₂ _++_ (gather-same f g h n) (h n)
 
 -- of two bytes more in front
-pairs-first : (a b : ℕ) (s : List ℕ) (n : ℕ) → pairsAt (a ∷ b ∷ s) 0 (suc n) ≡ ofPair (pairOf a b) ++ pairsAt s 0 n
-pairs-first a b s n =
-    gather-first (λ i. pairAt (a ∷ b ∷ s) (0 + 2 * i)) n
-    ∙ ap (λ xs. ofPair (pairOf a b) ++ xs) (gather-same _ _ shifted n)
+pairs-first : (σ : Structure) (a b : ℕ) (s : List ℕ) (n : ℕ) → pairsAt σ (a ∷ b ∷ s) 0 (suc n) ≡ ofPair (pairOf σ a b) ++ pairsAt σ s 0 n
+pairs-first σ a b s n =
+    gather-first (λ i. pairAt σ (a ∷ b ∷ s) (0 + 2 * i)) n
+    ∙ ap (λ xs. ofPair (pairOf σ a b) ++ xs) (gather-same _ _ shifted n)
   where
-    shifted : (i : ℕ) → pairAt (a ∷ b ∷ s) (0 + 2 * suc i) ≡ pairAt s (0 + 2 * i)
+    shifted : (i : ℕ) → pairAt σ (a ∷ b ∷ s) (0 + 2 * suc i) ≡ pairAt σ s (0 + 2 * i)
     shifted i =
         let e : 0 + 2 * suc i ≡ suc (suc (0 + 2 * i)) = omega arith in
         let f : suc (suc (0 + 2 * i)) + 1 ≡ suc (suc (0 + 2 * i + 1)) = omega arith in
         rw (e, f)
 
-skipped : pairOf 1 1 ≡ Skipped
+skipped : (σ : Structure) → pairOf σ 1 1 ≡ Skipped
 unfolding pairOf
-skipped = refl
+skipped σ = refl
 
-pub pairs-back : (n : ℕ) (ps : List StandardTiming) (s : List ℕ) → length ps ≤ n → All Back ps → pairsAt (pairsBytes n ps ++ s) 0 n ≡ ps
-pairs-back zero [] s h b = refl
-pairs-back zero (p ∷ ps) s h b = absurd (omega arith)
-pairs-back (suc n) [] s h b = pairs-first 1 1 (pairsBytes n [] ++ s) n ∙ rw skipped (pairs-back n [] s (omega arith) b)
-pairs-back (suc n) (p ∷ ps) s h b =
-    pairs-first _ _ (pairsBytes n ps ++ s) n ∙ rw (b .0) (ap (λ xs. p ∷ xs) (pairs-back n ps s (omega arith) (b .1)))
+pub pairs-back : (σ : Structure) (n : ℕ) (ps : List StandardTiming) (s : List ℕ) → length ps ≤ n → All (Back σ) ps
+    → pairsAt σ (pairsBytes n ps ++ s) 0 n ≡ ps
+pairs-back σ zero [] s h b = refl
+pairs-back σ zero (p ∷ ps) s h b = absurd (omega arith)
+pairs-back σ (suc n) [] s h b = pairs-first σ 1 1 (pairsBytes n [] ++ s) n ∙ rw (skipped σ) (pairs-back σ n [] s (omega arith) b)
+pairs-back σ (suc n) (p ∷ ps) s h b =
+    pairs-first σ _ _ (pairsBytes n ps ++ s) n ∙ rw (b .0) (ap (λ xs. p ∷ xs) (pairs-back σ n ps s (omega arith) (b .1)))
 
 -- ---- what is read has bytes
 
@@ -56,28 +58,28 @@ pub all-append : {A : Type 0} (P : A → Type 0) (xs ys : List A) → All P xs �
 all-append P [] ys h k = k
 all-append P (x ∷ xs) ys h k = (h .0, all-append P xs ys (h .1) k)
 
-one-read : (a b : ℕ) → a < 256 → b < 256 → (p : Pair) → pairOf a b ≡ p → All ReadFrom (ofPair p)
-one-read a b ha hb (Listed p) e = (record { first = a; second = b; first-is-byte = ha; second-is-byte = hb; read = e }, tt)
-one-read a b ha hb Skipped e = tt
+one-read : (σ : Structure) (a b : ℕ) → a < 256 → b < 256 → (p : Pair) → pairOf σ a b ≡ p → All (ReadFrom σ) (ofPair p)
+one-read σ a b ha hb (Listed p) e = (record { first = a; second = b; first-is-byte = ha; second-is-byte = hb; read = e }, tt)
+one-read σ a b ha hb Skipped e = tt
 
-pub all-read : (s : List ℕ) → Bytes s → (k n : ℕ) → All ReadFrom (pairsAt s k n)
-all-read s h k zero = tt
-all-read s h k (suc n) =
-    all-append ReadFrom (pairsAt s k n) (pairAt s (k + 2 * n)) (all-read s h k n) (one-read _ _ (h (k + 2 * n)) (h (k + 2 * n + 1)) _ refl)
+pub all-read : (σ : Structure) (s : List ℕ) → Bytes s → (k n : ℕ) → All (ReadFrom σ) (pairsAt σ s k n)
+all-read σ s h k zero = tt
+all-read σ s h k (suc n) =
+    all-append (ReadFrom σ) (pairsAt σ s k n) (pairAt σ s (k + 2 * n)) (all-read σ s h k n) (one-read σ _ _ (h (k + 2 * n)) (h (k + 2 * n + 1)) _ refl)
 
 -- ---- one answer
 
-own-bytes : (ps : List StandardTiming) → All Back ps → All ReadFrom ps
-own-bytes [] h = tt
-own-bytes (p ∷ ps) h =
+own-bytes : (σ : Structure) (ps : List StandardTiming) → All (Back σ) ps → All (ReadFrom σ) ps
+own-bytes σ [] h = tt
+own-bytes σ (p ∷ ps) h =
     let b = pair-are-bytes p in
-    (record { first = pairLow p; second = pairHigh p; first-is-byte = b .0; second-is-byte = b .1; read = h .0 }, own-bytes ps (h .1))
+    (record { first = pairLow p; second = pairHigh p; first-is-byte = b .0; second-is-byte = b .1; read = h .0 }, own-bytes σ ps (h .1))
 
-pub one-pairs : {ps : List StandardTiming} {f g : Bool} {s t : List ℕ} {m n : ℕ} → WritesPairs ps f s m → WritesPairs ps g t n → (f ≡ g) × (s ≡ t) × (m ≡ n)
-one-pairs {ps} {f} {g} {s} {t} {m} {n} w v = (go f g w v, w .made ∙ sym (v .made), w .count ∙ sym (v .count))
+pub one-pairs : {σ : Structure} {ps : List StandardTiming} {f g : Bool} {s t : List ℕ} {m n : ℕ} → WritesPairs σ ps f s m → WritesPairs σ ps g t n → (f ≡ g) × (s ≡ t) × (m ≡ n)
+one-pairs {σ} {ps} {f} {g} {s} {t} {m} {n} w v = (go f g w v, w .made ∙ sym (v .made), w .count ∙ sym (v .count))
   where
-    go : (f g : Bool) → WritesPairs ps f s m → WritesPairs ps g t n → f ≡ g
+    go : (f g : Bool) → WritesPairs σ ps f s m → WritesPairs σ ps g t n → f ≡ g
     go true true w v = refl
     go false false w v = refl
-    go true false w v = sym (v .complete (own-bytes ps (w .sound refl)))
-    go false true w v = w .complete (own-bytes ps (v .sound refl))
+    go true false w v = sym (v .complete (own-bytes σ ps (w .sound refl)))
+    go false true w v = w .complete (own-bytes σ ps (v .sound refl))

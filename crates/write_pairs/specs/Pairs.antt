@@ -9,6 +9,7 @@ use Rattle.standard_record.specs.Held.{heldPair}
 use Rattle.standard_record.specs.declared.StandardTiming.{StandardTiming}
 use Rattle.standard_record.specs.declared.StandardTimings.{StandardTimings}
 use Rattle.standard_parts.specs.Timings.{pairOf}
+use Rattle.standard_parts.specs.declared.Structure.{Structure}
 use Rattle.standard_parts.specs.declared.Pair.the-variants.{Listed}
 use Rattle.write_parts.specs.Pair.{pairLow, pairHigh}
 use Rattle.write_pairs.specs.Run.{run}
@@ -35,19 +36,19 @@ All P [] = Unit
 All P (x ∷ xs) = P x × All P xs
 
 -- two bytes that are read as the pair
-pub record ReadFrom (p : StandardTiming) : Type 0 where
+pub record ReadFrom (σ : Structure) (p : StandardTiming) : Type 0 where
   pub first : ℕ
   pub second : ℕ
   pub first-is-byte : first < 256
   pub second-is-byte : second < 256
-  pub read : pairOf first second ≡ Listed p
+  pub read : pairOf σ first second ≡ Listed p
 
 -- the pair is read from its own bytes
-abbrev pub Back : StandardTiming → Type 0
-Back p = pairOf (pairLow p) (pairHigh p) ≡ Listed p
+abbrev pub Back : Structure → StandardTiming → Type 0
+Back σ p = pairOf σ (pairLow p) (pairHigh p) ≡ Listed p
 
-pub record WritesPairs (ps : List StandardTiming) (fits : Bool) (bytes : List ℕ) (many : ℕ) : Type 0 where
+pub record WritesPairs (σ : Structure) (ps : List StandardTiming) (fits : Bool) (bytes : List ℕ) (many : ℕ) : Type 0 where
   pub made : bytes ≡ pairsBytes 8 ps
-  pub sound : fits ≡ true → All Back ps
-  pub complete : All ReadFrom ps → fits ≡ true
+  pub sound : fits ≡ true → All (Back σ) ps
+  pub complete : All (ReadFrom σ) ps → fits ≡ true
   pub count : many ≡ length ps

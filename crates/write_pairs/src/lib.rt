@@ -1,4 +1,5 @@
 // The bytes of a run of pairs: those of a record's list that carry one number, packed to the front, then 01 01.
+use standard_parts::Structure;
 use standard_record::HeldPair;
 use standard_record::StandardTimings;
 ghost use mathlib.Core.Path.{_≡_};
@@ -35,10 +36,10 @@ fn least(n: usize) -> usize
 }
 
 // The bytes of an entry, and whether it has another number.
-fn held_bytes(held: HeldPair, number: u16) -> HeldBytes
-    ensures { λ r. ⌜ (r .other ≡ not (eqb (held .slot) number)) × WritesPair (held .pair) (r .fits) (r .first, r .second) ⌝ }
+fn held_bytes(structure: Structure, held: HeldPair, number: u16) -> HeldBytes
+    ensures { λ r. ⌜ (r .other ≡ not (eqb (held .slot) number)) × WritesPair structure (held .pair) (r .fits) (r .first, r .second) ⌝ }
 {
-    let w = write_parts::pair_bytes(held.pair);
+    let w = write_parts::pair_bytes(structure, held.pair);
     HeldBytes {
         other: held.slot != number,
         fits: w.fits,
@@ -48,8 +49,13 @@ fn held_bytes(held: HeldPair, number: u16) -> HeldBytes
 }
 
 // The run from `from` on; at most eight, numbered 0, or six.
-pub fn pairs_bytes(list: StandardTimings, from: usize, number: u16) -> PairsBytes
-    ensures { λ r. ⌜ WritesPairs (pairsAhead list from number) (r .fits) (r .bytes) (r .many) ⌝ }
+pub fn pairs_bytes(
+    structure: Structure,
+    list: StandardTimings,
+    from: usize,
+    number: u16,
+) -> PairsBytes
+    ensures { λ r. ⌜ WritesPairs structure (pairsAhead list from number) (r .fits) (r .bytes) (r .many) ⌝ }
 {
     let items = list.items;
     let end = least(list.len);
@@ -62,7 +68,7 @@ pub fn pairs_bytes(list: StandardTimings, from: usize, number: u16) -> PairsByte
         if k >= end {
             return PairsBytes { fits, bytes, many };
         }
-        let w = held_bytes(items[k], number);
+        let w = held_bytes(structure, items[k], number);
         if w.other {
             return PairsBytes { fits, bytes, many };
         }

@@ -9,6 +9,7 @@ use Rattle.standard_record.specs.declared.Gamma.{Gamma}
 use Rattle.standard_record.specs.declared.Gamma.the-variants as Gamma
 use Rattle.standard_record.specs.declared.WhitePoint.{WhitePoint}
 use Rattle.standard_parts.specs.Text.{textLength}
+use Rattle.standard_parts.specs.declared.Structure.{Structure}
 use Rattle.write_leaf.specs.Bytes.{Bytes}
 use Rattle.write_leaf.specs.Leaf.{Again, Two, BothBytes}
 use Rattle.write_leaf.specs.Again.{again, cons-bytes, each-byte, take-bytes}
@@ -24,8 +25,8 @@ use Rattle.write_parts.specs.Texts.{writes-text}
 pub pair-are-bytes : (v : StandardTiming) → BothBytes (pairBytes v)
 pair-are-bytes v = omega arith
 
-pub pair-again : (v : StandardTiming) (s : Two) → BothBytes s → ReadsPair s v → Again BothBytes ReadsPair pairBytes v
-pair-again v s b r = again (writes-pair v) s b r (pair-are-bytes v)
+pub pair-again : (σ : Structure) (v : StandardTiming) (s : Two) → BothBytes s → ReadsPair σ s v → Again BothBytes (ReadsPair σ) pairBytes v
+pair-again σ v s b r = again (writes-pair σ v) s b r (pair-are-bytes v)
 
 -- ---- white points
 

@@ -1,4 +1,5 @@
--- The two bytes of a standard timing. 01 01 is read as none, so what it would stand for is not written.
+-- The two bytes of a standard timing. 01 01 is read as none, so what it would stand for is not written. They are the same for every structure σ,
+-- but not what they are read as.
 use Prim.Native.Nat.{ℕ, _+_, _*_, _/_, _%_}
 use mathlib.Core.Path.{_≡_}
 use mathlib.Core.Bool.{Bool, false}
@@ -6,6 +7,7 @@ use lib.Dec.{eqb}
 use Rattle.standard_record.specs.declared.Ratio.{Ratio}
 use Rattle.standard_record.specs.declared.StandardTiming.{StandardTiming}
 use Rattle.standard_parts.specs.Timings.{pairOf}
+use Rattle.standard_parts.specs.declared.Structure.{Structure}
 use Rattle.standard_parts.specs.declared.Pair.{Pair}
 use Rattle.standard_parts.specs.declared.Pair.the-variants as Pair
 use Rattle.write_leaf.specs.Bytes.{digit}
@@ -28,11 +30,11 @@ abbrev pub pairBytes : StandardTiming → Two
 pairBytes v = (pairLow v, pairHigh v)
 
 -- two bytes that are read as v
-abbrev pub ReadsPair : Two → StandardTiming → Type 0
-ReadsPair s v = pairOf (s .0) (s .1) ≡ Pair.Listed v
+abbrev pub ReadsPair : Structure → Two → StandardTiming → Type 0
+ReadsPair σ s v = pairOf σ (s .0) (s .1) ≡ Pair.Listed v
 
-abbrev pub WritesPair : StandardTiming → Bool → Two → Type 0
-WritesPair = Writes BothBytes ReadsPair pairBytes
+abbrev pub WritesPair : Structure → StandardTiming → Bool → Two → Type 0
+WritesPair σ = Writes BothBytes (ReadsPair σ) pairBytes
 
 -- ---- the test that the code makes: the bytes are read again, and each field compared
 

@@ -8,6 +8,8 @@ use borrow.Author.Tests.{eqb-true}
 use Rattle.bits.specs.Fields.{digits}
 use Rattle.standard_record.specs.declared.StandardTiming.{StandardTiming}
 use Rattle.standard_parts.specs.Timings.{ratioOf, pairOf}
+use Rattle.standard_parts.specs.declared.Structure.{Structure}
+use Rattle.standard_parts.specs.declared.Structure.the-variants.{Below3, From3}
 use Rattle.standard_parts.specs.declared.Pair.{Pair}
 use Rattle.standard_parts.specs.declared.Pair.the-variants as Pair
 use Rattle.write_leaf.specs.Digits.{four-hold, agrees}
@@ -34,28 +36,36 @@ pair-is (Pair.Listed w) v h = ap Pair.Listed (same-is w v h)
 
 -- ---- the bytes
 
-code-back : (c : ℕ) → c < 4 → ratioCode (ratioOf c) ≡ c
-code-back zero h = refl
-code-back (suc zero) h = refl
-code-back (suc (suc zero)) h = refl
-code-back (suc (suc (suc zero))) h = refl
-code-back (suc (suc (suc (suc c)))) h = absurd (omega arith)
+code-back : (σ : Structure) (c : ℕ) → c < 4 → ratioCode (ratioOf σ c) ≡ c
+code-back Below3 zero h = refl
+code-back From3 zero h = refl
+code-back σ (suc zero) h = refl
+code-back σ (suc (suc zero)) h = refl
+code-back σ (suc (suc (suc zero))) h = refl
+code-back σ (suc (suc (suc (suc c)))) h = absurd (omega arith)
 
 listed : (z : Bool) (w v : StandardTiming) → cond z Pair.Skipped (Pair.Listed w) ≡ Pair.Listed v → w ≡ v
 listed true w v h = cc
 listed false w v h = cc
 
-bytes-back : (a b : ℕ) → a < 256 → b < 256 → (v : StandardTiming) → pairOf a b ≡ Pair.Listed v → (pairLow v ≡ a) × (pairHigh v ≡ b)
+bytes-back : (σ : Structure) (a b : ℕ) → a < 256 → b < 256 → (v : StandardTiming) → pairOf σ a b ≡ Pair.Listed v → (pairLow v ≡ a) × (pairHigh v ≡ b)
 unfolding pairOf
-bytes-back a b ha hb v h =
-    let e = listed (eqb a 1 && eqb b 1) (record { width = (a + 31) * 8; ratio = ratioOf (digits b 6 2); rate = digits b 0 6 + 60 }) v h in
-    (rw (← e) (omega arith), rw (← e) (rw (code-back (digits b 6 2) (omega arith)) (omega arith)))
+bytes-back σ a b ha hb v h =
+    let e = listed (eqb a 1 && eqb b 1) (record { width = (a + 31) * 8; ratio = ratioOf σ (digits b 6 2); rate = digits b 0 6 + 60 }) v h in
+    (rw (← e) (omega arith), rw (← e) (rw (code-back σ (digits b 6 2) (omega arith)) (omega arith)))
 
-pub writes-pair : (v : StandardTiming) → WritesPair v (samePair (pairOf (pairLow v) (pairHigh v)) v) (pairLow v, pairHigh v)
-writes-pair v = record {
+-- the ratio of a pair that is read is the structure's, of its own code
+pub own-ratio : (σ : Structure) (a b : ℕ) → b < 256 → (v : StandardTiming) → pairOf σ a b ≡ Pair.Listed v → ratioOf σ (ratioCode (v .ratio)) ≡ v .ratio
+unfolding pairOf
+own-ratio σ a b hb v h =
+    let e = listed (eqb a 1 && eqb b 1) (record { width = (a + 31) * 8; ratio = ratioOf σ (digits b 6 2); rate = digits b 0 6 + 60 }) v h in
+    rw (← e) (ap (ratioOf σ) (code-back σ (digits b 6 2) (omega arith)))
+
+pub writes-pair : (σ : Structure) (v : StandardTiming) → WritesPair σ v (samePair (pairOf σ (pairLow v) (pairHigh v)) v) (pairLow v, pairHigh v)
+writes-pair σ v = record {
   made = refl;
-  sound = λ h. pair-is (pairOf (pairLow v) (pairHigh v)) v h;
+  sound = λ h. pair-is (pairOf σ (pairLow v) (pairHigh v)) v h;
   complete = λ s b h.
-      let e = bytes-back (s .0) (s .1) (b .0) (b .1) v h in
+      let e = bytes-back σ (s .0) (s .1) (b .0) (b .1) v h in
       rw (e .0, e .1, h) (same-self v);
 }

@@ -1,5 +1,6 @@
 // The bytes of the parts of a slot: a pair, a white point with its gamma, a text.
 use standard_parts::Pair;
+use standard_parts::Structure;
 use standard_record::Gamma;
 use standard_record::Ratio;
 use standard_record::StandardTiming;
@@ -54,12 +55,12 @@ fn same_pair(p: Pair, v: StandardTiming) -> bool
 }
 
 // The two bytes of a standard timing.
-pub fn pair_bytes(v: StandardTiming) -> TwoBytes
-    ensures { λ r. ⌜ WritesPair v (r .fits) (r .first, r .second) ⌝ }
+pub fn pair_bytes(structure: Structure, v: StandardTiming) -> TwoBytes
+    ensures { λ r. ⌜ WritesPair structure v (r .fits) (r .first, r .second) ⌝ }
 {
     let low = ((v.width / 8 + 225) % 256) as u8;
     let high = ratio_code(v.ratio) * 64 + ((v.rate % 64 + 4) % 64) as u8;
-    let fits = same_pair(standard_parts::pair_of(low, high), v);
+    let fits = same_pair(standard_parts::pair_of(structure, low, high), v);
     TwoBytes {
         fits,
         first: low,

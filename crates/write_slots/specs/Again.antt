@@ -12,6 +12,7 @@ use Rattle.fixed.specs.Fixed.{pad}
 use Rattle.standard_record.specs.declared.WhitePoint.{WhitePoint}
 use Rattle.standard_record.specs.declared.Descriptor.{Descriptor}
 use Rattle.standard_parts.specs.Descriptors.{limitsOf, secondaryOf}
+use Rattle.standard_parts.specs.declared.Structure.{Structure}
 use Rattle.standard_slots.specs.Said.{rangeIn}
 use Rattle.standard_slots.specs.Answers.{ofPoints}
 use Rattle.standard_slots.specs.declared.Points.{Points}
@@ -56,13 +57,14 @@ module _ (t : List ℕ) (b : Bytes t) where
       tagged-bytes 0xfb (pointsBytes 2 (w ∷ ws) ++ 0x0a ∷ 0x20 ∷ 0x20 ∷ []) (omega arith)
       (append-bytes (pointsBytes 2 (w ∷ ws)) (0x0a ∷ 0x20 ∷ 0x20 ∷ []) (points-bytes 2 (w ∷ ws) h) (each-byte (0x0a ∷ 0x20 ∷ 0x20 ∷ []) (omega arith)))
 
-points-written : (ps : Points) → (f : Bool) × (m : List ℕ) × WritesPoints ps f m
-points-written Points.None = (_, _, writes-none)
-points-written (Points.One p) = (_, _, writes-one p _ _ (point-written p))
-points-written (Points.Two p q) = (_, _, writes-two p q _ _ _ _ (point-written p) (point-written q))
+points-written : (σ : Structure) (ps : Points) → (f : Bool) × (m : List ℕ) × WritesPoints σ ps f m
+points-written σ Points.None = (_, _, writes-none σ)
+points-written σ (Points.One p) = (_, _, writes-one p _ _ (point-written p) σ)
+points-written σ (Points.Two p q) = (_, _, writes-two p q _ _ _ _ (point-written p) (point-written q) σ)
 
-pub points-again : (ps : Points) (t : List ℕ) → Bytes t → ReadsPoints t ps → Again Bytes ReadsPoints (λ ps. slotBytes [] [] (ofPoints ps) []) ps
-points-again ps t b r = again (points-written ps .2) t b r (slot-bytes t b (ofPoints ps) (points-read t (ofPoints ps) (r .shown)))
+pub points-again : (σ : Structure) (ps : Points) (t : List ℕ) → Bytes t → ReadsPoints σ t ps
+    → Again Bytes (ReadsPoints σ) (λ ps. slotBytes [] [] (ofPoints ps) []) ps
+points-again σ ps t b r = again (points-written σ ps .2) t b r (slot-bytes t b (ofPoints ps) (points-read σ t (ofPoints ps) (r .shown)))
 
 -- ---- descriptors
 
@@ -103,16 +105,16 @@ module _ (t : List ℕ) (b : Bytes t) where
       run-bytes tag u (omega (arith, leb-true tag 0xf9 (two-hold (leb 0x11 tag) (leb tag 0xf9) (r .0) .1))) (r .1)
   words-bytes (makerDefined tag u) r = run-bytes tag u (omega (arith, ltb-true tag 0x10 (r .0))) (r .1)
 
-module _ (lent : List ℕ) where
-  descriptor-written : (d : Descriptor) → (f : Bool) × (m : List ℕ) × WritesDescriptor lent d f m
-  descriptor-written (Descriptor.Serial s) = (_, _, writes-serial lent s _ _ (writes-span lent s _ _ (Texts.writes-text (bytesOf lent s))))
-  descriptor-written (Descriptor.Text s) = (_, _, writes-text lent s _ _ (writes-span lent s _ _ (Texts.writes-text (bytesOf lent s))))
-  descriptor-written (Descriptor.Range l s) = (_, _, writes-range lent l s)
-  descriptor-written (Descriptor.Name s) = (_, _, writes-name lent s _ _ (writes-span lent s _ _ (Texts.writes-text (bytesOf lent s))))
-  descriptor-written (Descriptor.Undefined tag s) = (_, _, writes-undefined lent tag s)
-  descriptor-written (Descriptor.MakerDefined tag s) = (_, _, writes-maker lent tag s)
+module _ (σ : Structure) (lent : List ℕ) where
+  descriptor-written : (d : Descriptor) → (f : Bool) × (m : List ℕ) × WritesDescriptor σ lent d f m
+  descriptor-written (Descriptor.Serial s) = (_, _, writes-serial σ lent s _ _ (writes-span lent s _ _ (Texts.writes-text (bytesOf lent s))))
+  descriptor-written (Descriptor.Text s) = (_, _, writes-text σ lent s _ _ (writes-span lent s _ _ (Texts.writes-text (bytesOf lent s))))
+  descriptor-written (Descriptor.Range l s) = (_, _, writes-range σ lent l s)
+  descriptor-written (Descriptor.Name s) = (_, _, writes-name σ lent s _ _ (writes-span lent s _ _ (Texts.writes-text (bytesOf lent s))))
+  descriptor-written (Descriptor.Undefined tag s) = (_, _, writes-undefined σ lent tag s)
+  descriptor-written (Descriptor.MakerDefined tag s) = (_, _, writes-maker σ lent tag s)
 
-pub descriptor-again : (lent : List ℕ) (d : Descriptor) (t : List ℕ) → Bytes t → ReadsDescriptor lent t d
-    → Again Bytes (ReadsDescriptor lent) (λ d. descriptorBytes (words lent d)) d
-descriptor-again lent d t b r =
-    again (descriptor-written lent d .2) t b r (words-bytes t b (words lent d) (tells t (r .1 .size) b (words lent d) (r .1 .shown)))
+pub descriptor-again : (σ : Structure) (lent : List ℕ) (d : Descriptor) (t : List ℕ) → Bytes t → ReadsDescriptor σ lent t d
+    → Again Bytes (ReadsDescriptor σ lent) (λ d. descriptorBytes (words lent d)) d
+descriptor-again σ lent d t b r =
+    again (descriptor-written σ lent d .2) t b r (words-bytes t b (words lent d) (tells t (r .1 .size) b σ (words lent d) (r .1 .shown)))

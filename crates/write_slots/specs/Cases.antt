@@ -16,14 +16,15 @@ use Rattle.standard_timing.specs.Timing.{clockIn, timingIn}
 use Rattle.standard_timing.specs.declared.Timed.{Timed}
 use Rattle.standard_parts.specs.Descriptors.{closingRefusal, rangeRefusal}
 use Rattle.standard_parts.specs.Text.{allSpaces, isPadded, textLength}
+use Rattle.standard_parts.specs.declared.Structure.{Structure}
 use Rattle.standard_slots.specs.Said.{Said, refusal, nothing, timing, pairs, points, described, unless, pairsIn, pointsIn, textIn, textAs, rangeIn, rawOf, ofTimed, byTag, said}
 
 -- P holds of each answer, where the bytes t give it
-pub record Cases (P : Said → Type 0) (t : List ℕ) (at : ℕ) : Type 0 where
+pub record Cases (P : Said → Type 0) (σ : Structure) (t : List ℕ) (at : ℕ) : Type 0 where
   pub refused : (n : ℕ) → P (refusal n)
   pub none : P nothing
   pub timed : (d : DetailedTiming) → 0 < clockIn t → timingIn t ≡ Timed.Is d → P (timing d)
-  pub listed : P (pairs (pairsIn t))
+  pub listed : P (pairs (pairsIn σ t))
   pub pointed : P (points (pointsIn t))
   pub name : isPadded (part t 5 13) (textLength (part t 5 13)) ≡ true → P (described (Descriptor.Name (textIn t at)))
   pub text : isPadded (part t 5 13) (textLength (part t 5 13)) ≡ true → P (described (Descriptor.Text (textIn t at)))
@@ -31,7 +32,7 @@ pub record Cases (P : Said → Type 0) (t : List ℕ) (at : ℕ) : Type 0 where
   pub range : P (described (rangeIn t at))
   pub raw : tagOf (t ! 3) ≡ Tag.Raw → P (described (rawOf (t ! 3) (record { start = at + 5; len = 13 })))
 
-module _ (P : Said → Type 0) (t : List ℕ) (at : ℕ) (e : Cases P t at) where
+module _ (P : Said → Type 0) (σ : Structure) (t : List ℕ) (at : ℕ) (e : Cases P σ t at) where
   behind : (n : ℕ) (x : Said) → P x → P (unless n x)
   behind n x h = go (eqb n 0)
     where
@@ -46,9 +47,9 @@ module _ (P : Said → Type 0) (t : List ℕ) (at : ℕ) (e : Cases P t at) wher
       go true h = h refl
       go false h = e .refused 5
 
-  by-tag : (tag : Tag) → tagOf (t ! 3) ≡ tag → P (byTag tag t at)
+  by-tag : (tag : Tag) → tagOf (t ! 3) ≡ tag → P (byTag σ tag t at)
   by-tag Tag.Dummy p = e .none
-  by-tag Tag.Pairs p = behind (closingRefusal (t ! 17) true) (pairs (pairsIn t)) (e .listed)
+  by-tag Tag.Pairs p = behind (closingRefusal (t ! 17) true) (pairs (pairsIn σ t)) (e .listed)
   by-tag Tag.Points p = behind (closingRefusal (t ! 15) (allSpaces (part t 16 2))) (points (pointsIn t)) (e .pointed)
   by-tag Tag.Name p = worded Descriptor.Name (e .name)
   by-tag Tag.Range p = behind (rangeRefusal (t ! 10) (t ! 11) (allSpaces (part t 12 6))) (described (rangeIn t at)) (e .range)
@@ -60,11 +61,11 @@ module _ (P : Said → Type 0) (t : List ℕ) (at : ℕ) (e : Cases P t at) wher
   by-timing (Timed.Is d) h p = e .timed d h p
   by-timing Timed.Over h p = e .refused 6
 
-  pub told : (i : ℕ) → P (said i t at)
+  pub told : (i : ℕ) → P (said σ i t at)
   unfolding said
   told i = go (eqb (clockIn t) 0) refl (eqb i 0)
     where
-      go : (z : Bool) → eqb (clockIn t) 0 ≡ z → (y : Bool) → P (cond z (cond y (refusal 3) (byTag (tagOf (t ! 3)) t at)) (ofTimed (timingIn t)))
+      go : (z : Bool) → eqb (clockIn t) 0 ≡ z → (y : Bool) → P (cond z (cond y (refusal 3) (byTag σ (tagOf (t ! 3)) t at)) (ofTimed (timingIn t)))
       go true p true = e .refused 3
       go true p false = by-tag (tagOf (t ! 3)) refl
       go false p y = let h = eqb-false (clockIn t) 0 p in by-timing (timingIn t) (omega arith) refl

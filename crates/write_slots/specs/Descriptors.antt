@@ -15,6 +15,7 @@ use Rattle.steps.specs.declared.Span.{Span}
 use Rattle.tags.specs.Tags.{tagOf}
 use Rattle.tags.specs.declared.Tag.{Tag}
 use Rattle.standard_record.specs.declared.Descriptor.{Descriptor}
+use Rattle.standard_parts.specs.declared.Structure.{Structure}
 use Rattle.standard_slots.specs.Said.{said}
 use Rattle.write_leaf.specs.Bytes.{Bytes, digit}
 use Rattle.write_leaf.specs.Digits.{two-hold}
@@ -53,51 +54,51 @@ writes-span lent s f b w =
       complete = λ t h r. rw (le-leb (s .start + s .len) (length lent) (r .0), w .complete t h (r .1));
     }
 
-abbrev pub Shown : List ℕ → Words → Type 0
-Shown t w = shows t (said 1 t 0) ≡ these (entries [] [] [] (w ∷ []))
+abbrev pub Shown : Structure → List ℕ → Words → Type 0
+Shown σ t w = shows t (said σ 1 t 0) ≡ these (entries [] [] [] (w ∷ []))
 
-module _ (b u : List ℕ) (r : ReadsText b u) where
-  serial-shown : Shown (tagged 0xff b) (serial u)
+module _ (σ : Structure) (b u : List ℕ) (r : ReadsText b u) where
+  serial-shown : Shown σ (tagged 0xff b) (serial u)
   unfolding said tagOf
   serial-shown = rw (take-all 13 b (omega (arith, r .size)), r .padded, r .is)
 
-  text-shown : Shown (tagged 0xfe b) (text u)
+  text-shown : Shown σ (tagged 0xfe b) (text u)
   unfolding said tagOf
   text-shown = rw (take-all 13 b (omega (arith, r .size)), r .padded, r .is)
 
-  name-shown : Shown (tagged 0xfc b) (name u)
+  name-shown : Shown σ (tagged 0xfc b) (name u)
   unfolding said tagOf
   name-shown = rw (take-all 13 b (omega (arith, r .size)), r .padded, r .is)
 
-module _ (lent : List ℕ) (s : Span) (f : Bool) (b : List ℕ) (w : WritesSpan lent s f b) where
+module _ (σ : Structure) (lent : List ℕ) (s : Span) (f : Bool) (b : List ℕ) (w : WritesSpan lent s f b) where
   abbrev u : List ℕ
   u = bytesOf lent s
 
-  sound : (tag : ℕ) (k : Words) → (ReadsText b u → Shown (tagged tag b) k) → f ≡ true → Inside s (length lent) × Reads (tagged tag b) (entries [] [] [] (k ∷ []))
+  sound : (tag : ℕ) (k : Words) → (ReadsText b u → Shown σ (tagged tag b) k) → f ≡ true → Inside s (length lent) × Reads σ (tagged tag b) (entries [] [] [] (k ∷ []))
   sound tag k e h = let r = w .sound h in (r .0, record { size = omega (arith, r .1 .size); shown = e (r .1) })
 
   complete : (t : List ℕ) → Bytes t → Inside s (length lent) → ReadsText (part t 5 13) u → f ≡ true
   complete t h i r = w .complete (part t 5 13) (part-bytes t 5 13 h) (i, r)
 
-  pub writes-serial : WritesDescriptor lent (Descriptor.Serial s) f (tagged 0xff b)
+  pub writes-serial : WritesDescriptor σ lent (Descriptor.Serial s) f (tagged 0xff b)
   writes-serial = record {
     made = ap (tagged 0xff) (w .made);
-    sound = sound 0xff (serial u) (serial-shown b u);
-    complete = λ t h r. complete t h (r .0) (tells t (r .1 .size) h (serial u) (r .1 .shown));
+    sound = sound 0xff (serial u) (serial-shown σ b u);
+    complete = λ t h r. complete t h (r .0) (tells t (r .1 .size) h σ (serial u) (r .1 .shown));
   }
 
-  pub writes-text : WritesDescriptor lent (Descriptor.Text s) f (tagged 0xfe b)
+  pub writes-text : WritesDescriptor σ lent (Descriptor.Text s) f (tagged 0xfe b)
   writes-text = record {
     made = ap (tagged 0xfe) (w .made);
-    sound = sound 0xfe (text u) (text-shown b u);
-    complete = λ t h r. complete t h (r .0) (tells t (r .1 .size) h (text u) (r .1 .shown));
+    sound = sound 0xfe (text u) (text-shown σ b u);
+    complete = λ t h r. complete t h (r .0) (tells t (r .1 .size) h σ (text u) (r .1 .shown));
   }
 
-  pub writes-name : WritesDescriptor lent (Descriptor.Name s) f (tagged 0xfc b)
+  pub writes-name : WritesDescriptor σ lent (Descriptor.Name s) f (tagged 0xfc b)
   writes-name = record {
     made = ap (tagged 0xfc) (w .made);
-    sound = sound 0xfc (name u) (name-shown b u);
-    complete = λ t h r. complete t h (r .0) (tells t (r .1 .size) h (name u) (r .1 .shown));
+    sound = sound 0xfc (name u) (name-shown σ b u);
+    complete = λ t h r. complete t h (r .0) (tells t (r .1 .size) h σ (name u) (r .1 .shown));
   }
 
 -- ---- runs of 13 bytes
@@ -115,26 +116,26 @@ raw-tag n h k =
       ne-eqb n 0xff (λ e. omega arith),
     )
 
-undefined-shown : (tag : ℕ) (u : List ℕ) → middle tag ≡ true → length u ≡ 13 → Shown (tagged tag u) (undefined tag u)
+undefined-shown : (σ : Structure) (tag : ℕ) (u : List ℕ) → middle tag ≡ true → length u ≡ 13 → Shown σ (tagged tag u) (undefined tag u)
 unfolding said
-undefined-shown tag u h e =
+undefined-shown σ tag u h e =
     let m = two-hold (leb 0x11 tag) (leb tag 0xf9) h in
     let least = leb-true 0x11 tag (m .0) in
     let most = leb-true tag 0xf9 (m .1) in
     rw (raw-tag tag most (λ e. omega arith), le-ltb tag 0x10 (omega arith), take-all 13 u (omega arith))
 
-maker-shown : (tag : ℕ) (u : List ℕ) → ltb tag 0x10 ≡ true → length u ≡ 13 → Shown (tagged tag u) (makerDefined tag u)
+maker-shown : (σ : Structure) (tag : ℕ) (u : List ℕ) → ltb tag 0x10 ≡ true → length u ≡ 13 → Shown σ (tagged tag u) (makerDefined tag u)
 unfolding said
-maker-shown tag u h e =
+maker-shown σ tag u h e =
     let most = ltb-true tag 0x10 h in
     rw (raw-tag tag (omega arith) (λ e. omega arith), h, take-all 13 u (omega arith))
 
-module _ (lent : List ℕ) (tag : ℕ) (s : Span) where
+module _ (σ : Structure) (lent : List ℕ) (tag : ℕ) (s : Span) where
   abbrev run : List ℕ
   run = bytesOf lent s
 
-  run-sound : (known : Bool) (k : Words) → (known ≡ true → length run ≡ 13 → Shown (tagged tag run) k) → runFits known s (length lent) ≡ true
-      → Inside s (length lent) × Reads (tagged tag (pad 13 0 run)) (entries [] [] [] (k ∷ []))
+  run-sound : (known : Bool) (k : Words) → (known ≡ true → length run ≡ 13 → Shown σ (tagged tag run) k) → runFits known s (length lent) ≡ true
+      → Inside s (length lent) × Reads σ (tagged tag (pad 13 0 run)) (entries [] [] [] (k ∷ []))
   run-sound known k e h =
       let p = two-hold known (exact 13 s (length lent)) h in
       let q = exact-is 13 s (length lent) (p .1) in
@@ -145,20 +146,20 @@ module _ (lent : List ℕ) (tag : ℕ) (s : Span) where
       → runFits known s (length lent) ≡ true
   run-complete t b e h known p q = rw (p, is-exact 13 s lent h (ap length (sym q) ∙ part-size t e b))
 
-  pub writes-undefined : WritesDescriptor lent (Descriptor.Undefined tag s) (runFits (middle tag) s (length lent)) (tagged tag (pad 13 0 run))
+  pub writes-undefined : WritesDescriptor σ lent (Descriptor.Undefined tag s) (runFits (middle tag) s (length lent)) (tagged tag (pad 13 0 run))
   writes-undefined = record {
     made = refl;
-    sound = run-sound (middle tag) (undefined tag run) (undefined-shown tag run);
+    sound = run-sound (middle tag) (undefined tag run) (undefined-shown σ tag run);
     complete = λ t b r.
-        let e = tells t (r .1 .size) b (undefined tag run) (r .1 .shown) in
+        let e = tells t (r .1 .size) b σ (undefined tag run) (r .1 .shown) in
         run-complete t b (r .1 .size) (r .0) (middle tag) (e .0) (e .1);
   }
 
-  pub writes-maker : WritesDescriptor lent (Descriptor.MakerDefined tag s) (runFits (ltb tag 0x10) s (length lent)) (tagged tag (pad 13 0 run))
+  pub writes-maker : WritesDescriptor σ lent (Descriptor.MakerDefined tag s) (runFits (ltb tag 0x10) s (length lent)) (tagged tag (pad 13 0 run))
   writes-maker = record {
     made = refl;
-    sound = run-sound (ltb tag 0x10) (makerDefined tag run) (maker-shown tag run);
+    sound = run-sound (ltb tag 0x10) (makerDefined tag run) (maker-shown σ tag run);
     complete = λ t b r.
-        let e = tells t (r .1 .size) b (makerDefined tag run) (r .1 .shown) in
+        let e = tells t (r .1 .size) b σ (makerDefined tag run) (r .1 .shown) in
         run-complete t b (r .1 .size) (r .0) (ltb tag 0x10) (e .0) (e .1);
   }

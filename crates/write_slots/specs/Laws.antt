@@ -21,6 +21,7 @@ use Rattle.standard_timing.specs.declared.Timed.{Timed}
 use Rattle.standard_parts.specs.Descriptors.{closingRefusal, rangeRefusal, limitsOf, secondaryOf}
 use Rattle.standard_parts.specs.Text.{textLength, allSpaces}
 use Rattle.standard_parts.specs.TextEnds.{text-ends}
+use Rattle.standard_parts.specs.declared.Structure.{Structure}
 use Rattle.standard_slots.specs.Said.{Said, refusal, pairs, pairsAt, textIn, textAs, paddingRefusal, rangeIn, rawOf, ofTimed, byTag, said}
 use Rattle.write_slots.specs.Words.{other, Words, serial, text, range, name, undefined, makerDefined, bytesOf, secondary, words, Entries, entries, Shows, refused, these, shows}
 use Rattle.write_slots.specs.Cases.{told}
@@ -46,7 +47,7 @@ agree f g false h k = k
 abbrev one : Words → Shows
 one w = these (entries [] [] [] (w ∷ []))
 
-module _ (b : List ℕ) (at : ℕ) where
+module _ (σ : Structure) (b : List ℕ) (at : ℕ) where
   abbrev slot : List ℕ
   slot = part b at 18
 
@@ -82,7 +83,7 @@ module _ (b : List ℕ) (at : ℕ) where
       let h = span 5 13 (omega arith) in
       agree (words b) (words slot) (ltb (slot ! 3) 0x10) (ap (makerDefined (slot ! 3)) h) (ap (undefined (slot ! 3)) h)
 
-  by-tag : (tag : Tag) → Alike (byTag tag slot at) (byTag tag slot 0)
+  by-tag : (tag : Tag) → Alike (byTag σ tag slot at) (byTag σ tag slot 0)
   by-tag Tag.Dummy = refl
   by-tag Tag.Pairs = agree (shows b) (shows slot) (eqb (closingRefusal (slot ! 17) true) 0) refl refl
   by-tag Tag.Points = agree (shows b) (shows slot) (eqb (closingRefusal (slot ! 15) (allSpaces (part slot 16 2))) 0) refl refl
@@ -96,7 +97,7 @@ module _ (b : List ℕ) (at : ℕ) where
   by-timing (Timed.Is d) = refl
   by-timing Timed.Over = refl
 
-  pub shown-in-block : (i : ℕ) → shows b (said i (part b at 18) at) ≡ shows (part b at 18) (said i (part b at 18) 0)
+  pub shown-in-block : (i : ℕ) → shows b (said σ i (part b at 18) at) ≡ shows (part b at 18) (said σ i (part b at 18) 0)
   unfolding said
   shown-in-block i =
       agree (shows b) (shows slot) (eqb (clockIn slot) 0)
@@ -105,19 +106,19 @@ module _ (b : List ℕ) (at : ℕ) where
 
 -- ---- timings
 
-pub timing-shown : (i : ℕ) (t : List ℕ) (d : DetailedTiming) → 0 < clockIn t → timingIn t ≡ Timed.Is d
-    → shows t (said i t 0) ≡ these (entries (d ∷ []) [] [] [])
+pub timing-shown : (σ : Structure) (i : ℕ) (t : List ℕ) (d : DetailedTiming) → 0 < clockIn t → timingIn t ≡ Timed.Is d
+    → shows t (said σ i t 0) ≡ these (entries (d ∷ []) [] [] [])
 unfolding said
-timing-shown i t d h e = rw (ne-eqb (clockIn t) 0 (omega arith), e)
+timing-shown σ i t d h e = rw (ne-eqb (clockIn t) 0 (omega arith), e)
 
 abbrev timingsOf : Shows → List DetailedTiming
 timingsOf refused = []
 timingsOf (these l) = l .timings
 
-pub shown-timing : (i : ℕ) (t : List ℕ) (d : DetailedTiming) (ts : List DetailedTiming) (ps : List StandardTiming) (ws : List WhitePoint) (ds : List Words)
-    → shows t (said i t 0) ≡ these (entries (d ∷ ts) ps ws ds) → (0 < clockIn t) × (timingIn t ≡ Timed.Is d)
-shown-timing i t d ts ps ws ds h =
-    told (λ x. timingsOf (shows t x) ≡ d ∷ ts → (0 < clockIn t) × (timingIn t ≡ Timed.Is d)) t 0 (record {
+pub shown-timing : (σ : Structure) (i : ℕ) (t : List ℕ) (d : DetailedTiming) (ts : List DetailedTiming) (ps : List StandardTiming) (ws : List WhitePoint) (ds : List Words)
+    → shows t (said σ i t 0) ≡ these (entries (d ∷ ts) ps ws ds) → (0 < clockIn t) × (timingIn t ≡ Timed.Is d)
+shown-timing σ i t d ts ps ws ds h =
+    told (λ x. timingsOf (shows t x) ≡ d ∷ ts → (0 < clockIn t) × (timingIn t ≡ Timed.Is d)) σ t 0 (record {
       refused = λ n e. absurd (nil≢cons e);
       none = λ e. absurd (nil≢cons e);
       timed = λ d l p e. (l, p ∙ ap Timed.Is (head-eq-of-cons-eq e));
@@ -131,9 +132,9 @@ shown-timing i t d ts ps ws ds h =
     }) i (ap timingsOf h)
 
 -- the first slot shows a timing, if it is not refused
-pub first-slot-timing : (t : List ℕ) (l : Entries) → shows t (said 0 t 0) ≡ these l → (d : DetailedTiming) × (l ≡ entries (d ∷ []) [] [] [])
+pub first-slot-timing : (σ : Structure) (t : List ℕ) (l : Entries) → shows t (said σ 0 t 0) ≡ these l → (d : DetailedTiming) × (l ≡ entries (d ∷ []) [] [] [])
 unfolding said
-first-slot-timing t l h = go (eqb (clockIn t) 0) (timingIn t) h
+first-slot-timing σ t l h = go (eqb (clockIn t) 0) (timingIn t) h
   where
     go : (z : Bool) (x : Timed) → shows t (cond z (refusal 3) (ofTimed x)) ≡ these l → (d : DetailedTiming) × (l ≡ entries (d ∷ []) [] [] [])
     go true x h = let z : _≡_ {A = ℕ} 0 1 = cc in absurd (omega arith)
@@ -142,18 +143,18 @@ first-slot-timing t l h = go (eqb (clockIn t) 0) (timingIn t) h
 
 -- ---- pairs
 
-pub pairs-shown : (t : List ℕ) → clockIn t ≡ 0 → t ! 3 ≡ 0xfa → t ! 17 ≡ 0x0a → shows t (said 1 t 0) ≡ these (entries [] (pairsAt t 5 6) [] [])
+pub pairs-shown : (σ : Structure) (t : List ℕ) → clockIn t ≡ 0 → t ! 3 ≡ 0xfa → t ! 17 ≡ 0x0a → shows t (said σ 1 t 0) ≡ these (entries [] (pairsAt σ t 5 6) [] [])
 unfolding said closingRefusal tagOf
-pairs-shown t clock tag last = rw (clock, tag, last)
+pairs-shown σ t clock tag last = rw (clock, tag, last)
 
 abbrev pairsOf : Shows → List StandardTiming
 pairsOf refused = []
 pairsOf (these l) = l .pairs
 
-pub shown-pairs : (i : ℕ) (t : List ℕ) (p : StandardTiming) (ps : List StandardTiming) (ts : List DetailedTiming) (ws : List WhitePoint) (ds : List Words)
-    → shows t (said i t 0) ≡ these (entries ts (p ∷ ps) ws ds) → pairsAt t 5 6 ≡ p ∷ ps
-shown-pairs i t p ps ts ws ds h =
-    told (λ x. pairsOf (shows t x) ≡ p ∷ ps → pairsAt t 5 6 ≡ p ∷ ps) t 0 (record {
+pub shown-pairs : (σ : Structure) (i : ℕ) (t : List ℕ) (p : StandardTiming) (ps : List StandardTiming) (ts : List DetailedTiming) (ws : List WhitePoint) (ds : List Words)
+    → shows t (said σ i t 0) ≡ these (entries ts (p ∷ ps) ws ds) → pairsAt σ t 5 6 ≡ p ∷ ps
+shown-pairs σ i t p ps ts ws ds h =
+    told (λ x. pairsOf (shows t x) ≡ p ∷ ps → pairsAt σ t 5 6 ≡ p ∷ ps) σ t 0 (record {
       refused = λ n e. absurd (nil≢cons e);
       none = λ e. absurd (nil≢cons e);
       timed = λ d l q e. absurd (nil≢cons e);

@@ -11,6 +11,7 @@ use Rattle.tags.specs.Tags.{tagOf}
 use Rattle.standard_record.specs.declared.WhitePoint.{WhitePoint}
 use Rattle.standard_parts.specs.Color.{pointOf}
 use Rattle.standard_parts.specs.Descriptors.{closingRefusal}
+use Rattle.standard_parts.specs.declared.Structure.{Structure}
 use Rattle.standard_parts.specs.declared.Point.{Point}
 use Rattle.standard_slots.specs.Said.{ofPoint, pointAt, said}
 use Rattle.standard_slots.specs.declared.Points.{Points}
@@ -26,18 +27,18 @@ use Rattle.write_slots.specs.Writes.{Reads, WritesPoints}
 use Rattle.write_slots.specs.Cases.{told}
 use Rattle.write_slots.specs.Tests.{bothPoints, pointsRest}
 
-pub writes-none : WritesPoints Points.None true (tagged 0x10 (replicate 13 0))
+pub writes-none : (σ : Structure) → WritesPoints σ Points.None true (tagged 0x10 (replicate 13 0))
 unfolding slotBytes said tagOf
-writes-none = record { made = refl; sound = λ h. record { size = refl; shown = refl }; complete = λ t b r. refl }
+writes-none σ = record { made = refl; sound = λ h. record { size = refl; shown = refl }; complete = λ t b r. refl }
 
 -- ---- from the bytes
 
 abbrev point : List ℕ → Point
 point l = pointOf (l ! 0) (l ! 1) (l ! 2) (l ! 3) (l ! 4)
 
-reads : (p q : List ℕ) (x y : Point) → point p ≡ x → point q ≡ y → Reads (tagged 0xfb (pointsRest p q)) (entries [] [] (ofPoint x ++ ofPoint y) [])
+reads : (σ : Structure) (p q : List ℕ) (x y : Point) → point p ≡ x → point q ≡ y → Reads σ (tagged 0xfb (pointsRest p q)) (entries [] [] (ofPoint x ++ ofPoint y) [])
 unfolding said tagOf closingRefusal pointAt
-reads p q x y e k = record { size = refl; shown = rw (e, k) }
+reads σ p q x y e k = record { size = refl; shown = rw (e, k) }
 
 -- ---- and back
 
@@ -54,9 +55,9 @@ abbrev pointsOf : Shows → List WhitePoint
 pointsOf refused = []
 pointsOf (these l) = l .points
 
-pub points-read : (t : List ℕ) (ws : List WhitePoint) → shows t (said 1 t 0) ≡ these (entries [] [] ws []) → All (ReadIn t) ws
-points-read t ws h =
-    told (λ x. pointsOf (shows t x) ≡ ws → All (ReadIn t) ws) t 0 (record {
+pub points-read : (σ : Structure) (t : List ℕ) (ws : List WhitePoint) → shows t (said σ 1 t 0) ≡ these (entries [] [] ws []) → All (ReadIn t) ws
+points-read σ t ws h =
+    told (λ x. pointsOf (shows t x) ≡ ws → All (ReadIn t) ws) σ t 0 (record {
       refused = λ n e. subst (All (ReadIn t)) e tt;
       none = λ e. subst (All (ReadIn t)) e tt;
       timed = λ d l q e. subst (All (ReadIn t)) e tt;
@@ -84,22 +85,22 @@ module _ (p : WhitePoint) (f : Bool) (b : List ℕ) (w : WritesPoint p f b) wher
   fits : (t : List ℕ) → Bytes t → ReadIn t p → f ≡ true
   fits t h r = w .complete (drop (r .0) t) (drop-bytes (r .0) t h) (r .1)
 
-  pub writes-one : WritesPoints (Points.One p) (bothPoints f true) (tagged 0xfb (pointsRest b blank))
+  pub writes-one : (σ : Structure) → WritesPoints σ (Points.One p) (bothPoints f true) (tagged 0xfb (pointsRest b blank))
   unfolding slotBytes pointBytes
-  writes-one =
+  writes-one σ =
       record {
         made = rw (w .made);
-        sound = λ h. reads b blank (Point.Listed p) Point.Skipped (w .sound (two-hold f true h .0)) skipped;
-        complete = λ t h r. rw (fits t h (points-read t (p ∷ []) (r .shown) .0));
+        sound = λ h. reads σ b blank (Point.Listed p) Point.Skipped (w .sound (two-hold f true h .0)) skipped;
+        complete = λ t h r. rw (fits t h (points-read σ t (p ∷ []) (r .shown) .0));
       }
 
 module _ (p q : WhitePoint) (f g : Bool) (a b : List ℕ) (w : WritesPoint p f a) (v : WritesPoint q g b) where
-  pub writes-two : WritesPoints (Points.Two p q) (bothPoints f g) (tagged 0xfb (pointsRest a b))
+  pub writes-two : (σ : Structure) → WritesPoints σ (Points.Two p q) (bothPoints f g) (tagged 0xfb (pointsRest a b))
   unfolding slotBytes pointBytes
-  writes-two = record {
+  writes-two σ = record {
     made = rw (w .made, v .made);
-    sound = λ h. reads a b (Point.Listed p) (Point.Listed q) (w .sound (two-hold f g h .0)) (v .sound (two-hold f g h .1));
+    sound = λ h. reads σ a b (Point.Listed p) (Point.Listed q) (w .sound (two-hold f g h .0)) (v .sound (two-hold f g h .1));
     complete = λ t h r.
-        let e = points-read t (p ∷ q ∷ []) (r .shown) in
+        let e = points-read σ t (p ∷ q ∷ []) (r .shown) in
         rw (fits p f a w t h (e .0), fits q g b v t h (e .1 .0));
   }

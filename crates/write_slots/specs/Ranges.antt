@@ -14,6 +14,7 @@ use Rattle.standard_record.specs.declared.Limits.{Limits}
 use Rattle.standard_record.specs.declared.SecondaryTiming.{SecondaryTiming}
 use Rattle.standard_record.specs.declared.Descriptor.{Descriptor}
 use Rattle.standard_parts.specs.Descriptors.{limitsOf, secondaryOf, closingRefusal, rangeRefusal}
+use Rattle.standard_parts.specs.declared.Structure.{Structure}
 use Rattle.standard_slots.specs.Spans.{SoundSecond}
 use Rattle.standard_slots.specs.Said.{rangeIn, said}
 use Rattle.write_leaf.specs.Bytes.{Bytes, low}
@@ -56,31 +57,31 @@ counted-clocks b h = eq-eqb (low (b * 10000000 / 10000000) * 10000000) (b * 1000
 abbrev slot : Limits → Secondary → List ℕ
 slot l s = tagged 0xfd (limitsBytes l ++ secondaryBytes s)
 
-none-shown : (l : Limits) → Shown (slot l none) (range (again l) none)
+none-shown : (σ : Structure) (l : Limits) → Shown σ (slot l none) (range (again l) none)
 unfolding said tagOf rangeRefusal closingRefusal rangeIn secondaryOf
-none-shown l = refl
+none-shown σ l = refl
 
-gtf-shown : (l : Limits) (start c m k j : ℕ) → counted 2000 start ≡ true → m < 65536 → Shown (slot l (gtf start c m k j)) (range (again l) (gtf start c m k j))
+gtf-shown : (σ : Structure) (l : Limits) (start c m k j : ℕ) → counted 2000 start ≡ true → m < 65536 → Shown σ (slot l (gtf start c m k j)) (range (again l) (gtf start c m k j))
 unfolding said tagOf rangeRefusal rangeIn secondaryOf
-gtf-shown l start c m k j h e =
+gtf-shown σ l start c m k j h e =
     let m-is : low m + 256 * low (m / 256) ≡ m = omega arith in
     rw (eqb-true (low (start / 2000) * 2000) start h, m-is)
 
-other-shown : (l : Limits) (kind : ℕ) (run : List ℕ) → eqb kind 0 ≡ false → eqb kind 2 ≡ false → length run ≡ 7
-    → Shown (slot l (other kind run)) (range (again l) (other kind run))
+other-shown : (σ : Structure) (l : Limits) (kind : ℕ) (run : List ℕ) → eqb kind 0 ≡ false → eqb kind 2 ≡ false → length run ≡ 7
+    → Shown σ (slot l (other kind run)) (range (again l) (other kind run))
 unfolding said tagOf rangeRefusal rangeIn secondaryOf
-other-shown l kind run h k e = rw (pad-whole 7 run e, h, k, take-all 7 run (omega arith))
+other-shown σ l kind run h k e = rw (pad-whole 7 run e, h, k, take-all 7 run (omega arith))
 
-secondary-shown : (lent : List ℕ) (l : Limits) (s : SecondaryTiming) → secondaryFits s (length lent) ≡ true
-    → SoundSecond s (length lent) × Shown (slot l (secondary lent s)) (range (again l) (secondary lent s))
-secondary-shown lent l SecondaryTiming.None h = (tt, none-shown l)
-secondary-shown lent l (SecondaryTiming.GTF start c m k j) h =
+secondary-shown : (σ : Structure) (lent : List ℕ) (l : Limits) (s : SecondaryTiming) → secondaryFits s (length lent) ≡ true
+    → SoundSecond s (length lent) × Shown σ (slot l (secondary lent s)) (range (again l) (secondary lent s))
+secondary-shown σ lent l SecondaryTiming.None h = (tt, none-shown σ l)
+secondary-shown σ lent l (SecondaryTiming.GTF start c m k j) h =
     let p = both-hold (ltb m 65536) (counted 2000 start) h in
-    (tt, gtf-shown l start c m k j (p .1) (ltb-true m 65536 (p .0)))
-secondary-shown lent l (SecondaryTiming.Other kind s) h =
+    (tt, gtf-shown σ l start c m k j (p .1) (ltb-true m 65536 (p .0)))
+secondary-shown σ lent l (SecondaryTiming.Other kind s) h =
     let p = three-hold (not (eqb kind 0)) (not (eqb kind 2)) (exact 7 s (length lent)) h in
     let q = exact-is 7 s (length lent) (p .2) in
-    (q .1, other-shown l kind (bytesOf lent s) (not-true _ (p .0)) (not-true _ (p .1)) (shown-size lent s (q .1) ∙ q .0))
+    (q .1, other-shown σ l kind (bytesOf lent s) (not-true _ (p .0)) (not-true _ (p .1)) (shown-size lent s (q .1) ∙ q .0))
 
 -- ---- and back
 
@@ -132,14 +133,14 @@ secondary-size none = refl
 secondary-size (gtf start c m k j) = refl
 secondary-size (other kind run) = ap suc (pad-size 7 run)
 
-pub writes-range : (lent : List ℕ) (l : Limits) (s : SecondaryTiming)
-    → WritesDescriptor lent (Descriptor.Range l s) (rangeFits l s (length lent)) (slot l (secondary lent s))
-writes-range lent l s =
+pub writes-range : (σ : Structure) (lent : List ℕ) (l : Limits) (s : SecondaryTiming)
+    → WritesDescriptor σ lent (Descriptor.Range l s) (rangeFits l s (length lent)) (slot l (secondary lent s))
+writes-range σ lent l s =
     record {
       made = refl;
       sound = λ h.
           let p = four-hold (counted 1000 (l .hmin)) (counted 1000 (l .hmax)) (counted 10000000 (l .clock)) (secondaryFits s (length lent)) h in
-          let q = secondary-shown lent l s (p .3) in
+          let q = secondary-shown σ lent l s (p .3) in
           (q .0, record { size = omega (arith, secondary-size (secondary lent s)); shown = rw (limits-back l (p .0) (p .1) (p .2)) at (q .1) });
-      complete = λ t h r. range-fits lent t (r .1 .size) h l s (r .0) (tells t (r .1 .size) h (range l (secondary lent s)) (r .1 .shown));
+      complete = λ t h r. range-fits lent t (r .1 .size) h l s (r .0) (tells t (r .1 .size) h σ (range l (secondary lent s)) (r .1 .shown));
     }

@@ -13,6 +13,7 @@ use Rattle.tags.specs.declared.Tag.{Tag}
 use Rattle.standard_record.specs.declared.Descriptor.{Descriptor}
 use Rattle.standard_parts.specs.Text.{textLength, isPadded}
 use Rattle.standard_parts.specs.TextEnds.{text-ends}
+use Rattle.standard_parts.specs.declared.Structure.{Structure}
 use Rattle.standard_slots.specs.Said.{textIn, rangeIn, rawOf, said}
 use Rattle.write_leaf.specs.Bytes.{Bytes}
 use Rattle.write_leaf.specs.Every.{at}
@@ -70,9 +71,9 @@ module _ (t : List ℕ) (size : length t ≡ 18) (b : Bytes t) where
       go true e = (e, refl)
       go false e = (raw-middle (t ! 3) (b 3) p e, refl)
 
-  pub tells : (w : Words) → shows t (said 1 t 0) ≡ these (entries [] [] [] (w ∷ [])) → Tells t w
-  tells w h =
-      told (λ x. wordsOf (shows t x) ≡ w ∷ [] → Tells t w) t 0 (record {
+  pub tells : (σ : Structure) (w : Words) → shows t (said σ 1 t 0) ≡ these (entries [] [] [] (w ∷ [])) → Tells t w
+  tells σ w h =
+      told (λ x. wordsOf (shows t x) ≡ w ∷ [] → Tells t w) σ t 0 (record {
         refused = λ n e. absurd (nil≢cons e);
         none = λ e. absurd (nil≢cons e);
         timed = λ d l p e. absurd (nil≢cons e);

@@ -1,4 +1,5 @@
-// The 18 bytes of a slot that holds no timing: pairs, white points, or a descriptor, the bytes of whose span are lent.
+// The 18 bytes of a slot that holds no timing: pairs, white points, or a descriptor, the bytes of whose span are lent. Points and descriptors
+// are read alike by every structure σ.
 use standard_record::Descriptor;
 use standard_record::Limits;
 use standard_record::SecondaryTiming;
@@ -11,6 +12,7 @@ ghost use mathlib.Core.Path.{_≡_};
 ghost use mathlib.Core.List.{[], _∷_, _++_};
 ghost use lib.ListN.{length, take};
 ghost use Rattle.fixed.specs.Fixed.{pad};
+ghost use Rattle.standard_parts.specs.declared.Structure.{Structure};
 ghost use Rattle.write_slots.specs.Slot.{tagged, limitsBytes, secondaryBytes};
 ghost use Rattle.write_slots.specs.Writes.{WritesPoints, WritesDescriptor};
 ghost use Rattle.write_slots.specs.Tests.{bothPoints, pointsRest, within, exact, WritesSpan, runFits, secondaryFits, rangeFits};
@@ -88,7 +90,7 @@ fn points_rest(first: PointBytes, second: PointBytes) -> Rest
 }
 
 pub fn points_bytes(ps: Points) -> SlotBytes
-    ensures { λ r. ⌜ WritesPoints ps (r .fits) (r .bytes) ⌝ }
+    ensures { λ r. ⌜ ((σ : Structure) → WritesPoints σ ps (r .fits) (r .bytes)) ⌝ }
 {
     match ps {
         Points::None => tagged(
@@ -277,7 +279,7 @@ fn range_rest(l: Limits, s: SecondaryTiming, lent: &[u8]) -> Rest
 // ---- descriptors
 
 pub fn descriptor_bytes(d: Descriptor, lent: &[u8]) -> SlotBytes
-    ensures { λ r. ⌜ WritesDescriptor (now (lent .entry)) d (r .fits) (r .bytes) ⌝ }
+    ensures { λ r. ⌜ ((σ : Structure) → WritesDescriptor σ (now (lent .entry)) d (r .fits) (r .bytes)) ⌝ }
 {
     match d {
         Descriptor::Serial(s) => tagged(0xff, text_rest(s, lent)),

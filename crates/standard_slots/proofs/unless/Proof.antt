@@ -4,10 +4,10 @@ use Rattle.standard_slots.proofs.unless.Statement.{statement}
 use Rattle.standard_slots.proofs.unless.Tie as tie
 
 returns : tie.Need-returns
-returns c = λ t. simp (eq-eqb _ _ (c .if1 .taken))
+returns c = λ ps. simp (eq-eqb _ _ (c .if1 .taken))
 
 returns-2 : tie.Need-returns-2
-returns-2 c = λ t. simp (ne-eqb _ _ (c .if1 .left))
+returns-2 c = λ ps. simp (ne-eqb _ _ (c .if1 .left))
 
 pub unless-spec : {M : Type 1} → statement M
 unless-spec = tie.close (tie.spec returns returns-2)

@@ -23,7 +23,7 @@ module _ (m : tie.After-fill-slots) where
   front = m .before .before .before .before
 
   abbrev start : tie.Start
-  start = front .before .before .before .before
+  start = front .before .before .before .before .before
 
   size : length (set (m .fill-slots .last .0) 126 (start .args .r .extensions)) ≡ 128
   size = length-set (m .fill-slots .last .0) 126 (start .args .r .extensions) ∙ m .fill-slots .ensures .1
@@ -67,7 +67,8 @@ fill-spec =
     tie.close
     (tie.spec
     (search needs)
-    (search needs)
+    (λ c κs. (c .before .before .before .before .pre, c .before .structure-of .ensures))
+    (λ c κs. (search needs, search needs, c .before .before .before .before .before .structure-of .ensures))
     (search needs)
     (search needs)
     (search needs)

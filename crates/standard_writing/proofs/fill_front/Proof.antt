@@ -11,6 +11,7 @@ use Rattle.write_head.specs.Front.{frontBytes}
 use Rattle.write_block.specs.Leaves.{pairs-length}
 use Rattle.write_block.specs.Taken.{eight}
 use Rattle.write_block.specs.Shown.{frontOf}
+use Rattle.write_block.specs.Holds.{structureFrom}
 use Rattle.standard_writing.proofs.Laws.{part-laid, front-fits}
 use Rattle.standard_writing.proofs.fill_front.Statement.{statement}
 use Rattle.standard_writing.proofs.fill_front.Tie as tie
@@ -28,7 +29,7 @@ front-laid : (l : tie.After-lay) → let f : tie.After-front-bytes = l .before .
     (length (l .lay .last .0) ≡ 128) × (take 38 (l .lay .last .0) ≡ f .front-bytes .result .bytes)
 front-laid l =
     let f = l .before .before .before .before in
-    rw (l .lay .ensures) (part-laid (now (start f .args .block)) (f .front-bytes .result .bytes) [] 0 38 (start f .pre) (front-size f) (omega arith) refl)
+    rw (l .lay .ensures) (part-laid (now (start f .args .block)) (f .front-bytes .result .bytes) [] 0 38 (start f .pre .0) (front-size f) (omega arith) refl)
 
 module _ (p : tie.After-pairs-bytes) where
   abbrev laid : tie.After-lay
@@ -37,9 +38,9 @@ module _ (p : tie.After-pairs-bytes) where
   abbrev begun : tie.Start
   begun = start (laid .before .before .before .before)
 
-  pairs : WritesPairs (eight (seen (begun .args .r))) (p .pairs-bytes .result .fits) (p .pairs-bytes .result .bytes) (p .pairs-bytes .result .many)
+  pairs : WritesPairs (structureFrom (seen (begun .args .r))) (eight (seen (begun .args .r))) (p .pairs-bytes .result .fits) (p .pairs-bytes .result .bytes) (p .pairs-bytes .result .many)
   unfolding seen
-  pairs = p .pairs-bytes .ensures
+  pairs = rw (begun .pre .1) at (p .pairs-bytes .ensures)
 
   pairs-size : length (p .pairs-bytes .result .bytes) ≡ 16
   pairs-size = ap length (pairs .made) ∙ pairs-length 8 (eight (seen (begun .args .r)))
@@ -48,7 +49,7 @@ slice-aggregate-lay : tie.Need-slice-aggregate-lay
 slice-aggregate-lay c = sym (front-size (c .before .before .before))
 
 lay-requires : tie.Need-lay-requires
-lay-requires c κs = let f = c .before .before .before in omega (arith, front-size f, start f .pre)
+lay-requires c κs = let f = c .before .before .before in omega (arith, front-size f, start f .pre .0)
 
 slice-aggregate-lay-2 : tie.Need-slice-aggregate-lay-2
 slice-aggregate-lay-2 c = sym (pairs-size (c .before .before .before))

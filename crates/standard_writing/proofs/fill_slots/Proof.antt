@@ -14,7 +14,7 @@ use Rattle.write_pairs.specs.Run.{run, run-at-most}
 use Rattle.write_next.specs.Next.{ofTiming}
 use Rattle.write_next.specs.Laws.{own-is}
 use Rattle.write_block.specs.Taken.{Rest, next, taken}
-use Rattle.write_block.specs.Holds.{slotFrom}
+use Rattle.write_block.specs.Holds.{structureFrom, slotFrom}
 use Rattle.standard_writing.specs.Filled.{FitSoFar}
 use Rattle.standard_writing.specs.Places.{ahead, Turned}
 use Rattle.standard_writing.specs.declared.Turn.{Turn}
@@ -23,12 +23,12 @@ use Rattle.standard_writing.proofs.fill_slots.Statement.{statement}
 use Rattle.standard_writing.proofs.fill_slots.Tie as tie
 
 abbrev Inv-loop : tie.InvT-loop
-Inv-loop block₀ r lent listed timings pairs points entries at₀ fits₀ i₀ block at fits i =
+Inv-loop block₀ structure r lent listed timings pairs points entries at₀ fits₀ i₀ block at fits i =
     (i ≤ 4) × (length block ≡ 128) × After (seen r) i at × FitSoFar r lent i fits
     × (take (54 + 18 * i) block ≡ take 54 block₀ ++ gather (λ j. slotFrom lent (taken (seen r) j)) i)
 
 abbrev μ-loop : tie.MeasureT-loop
-μ-loop block₀ r lent listed timings pairs points entries at₀ fits₀ i₀ block at fits i = 4 - i
+μ-loop block₀ structure r lent listed timings pairs points entries at₀ fits₀ i₀ block at fits i = 4 - i
 
 loop-holds : tie.Need-loop-holds Inv-loop μ-loop
 loop-holds c =
@@ -71,11 +71,11 @@ module _ (m : tie.At-match-came Inv-loop μ-loop) where
   timing-is =
       let r = start .args .r in
       sym (m .before .next-timing .ensures ∙ own-is heldTiming number (r .timings .detailed .items) (r .timings .detailed .len) 4 (here .loop .at .timed)
-      (simp length-map at (start .good .1 .0 .1 .1 .1 .1 .1 .1 .0 .1 .1 .1 .1 .0 .1 .1 .0 .1 .0 .1)) _)
+      (simp length-map at (start .good .1 .1 .0 .1 .1 .1 .1 .1 .1 .0 .1 .1 .1 .1 .0 .1 .1 .0 .1 .0 .1)) _)
 
   -- a turn that takes what slot `number` is to take
   abbrev Meant : Turn → Type 0
-  Meant t = Turned (now (start .args .lent)) (here .loop .at) (t .after) (t .slot .fits) (t .slot .bytes) (next number left)
+  Meant t = Turned (structureFrom (seen (start .args .r))) (now (start .args .lent)) (here .loop .at) (t .after) (t .slot .fits) (t .slot .bytes) (next number left)
 
   turn-is : Meant (m .match .t)
   unfolding seen
@@ -86,20 +86,20 @@ module _ (m : tie.At-match-came Inv-loop μ-loop) where
       let pairs = r .timings .standard in
       let points = r .color .points in
       let entries = r .descriptors in
-      let some = some-pair (pairs .items) (pairs .len) (at .listed) number (simp length-map at (start .good .1 .0 .1 .1 .1 .1 .1 .1 .0 .1 .1 .1 .0 .1 .1 .0 .1 .0 .1)) in
-      let none = no-pair (pairs .items) (pairs .len) (at .listed) number (simp length-map at (start .good .1 .0 .1 .1 .1 .1 .1 .1 .0 .1 .1 .1 .0 .1 .1 .0 .1 .0 .1)) in
-      ⊎-elim (λ w. subst Meant (sym (w .4)) (subst (Turned lent at _ _ _) (sym (next-is number left (timing-is ∙ ap ofTiming (w .1 .given .1)) refl refl refl)) (w .3 .ensures lent)))
+      let some = some-pair (pairs .items) (pairs .len) (at .listed) number (simp length-map at (start .good .1 .1 .0 .1 .1 .1 .1 .1 .1 .0 .1 .1 .1 .0 .1 .1 .0 .1 .0 .1)) in
+      let none = no-pair (pairs .items) (pairs .len) (at .listed) number (simp length-map at (start .good .1 .1 .0 .1 .1 .1 .1 .1 .1 .0 .1 .1 .1 .0 .1 .1 .0 .1 .0 .1)) in
+      ⊎-elim (λ w. subst Meant (sym (w .4)) (subst (Turned _ lent at _ _ _) (sym (next-is number left (timing-is ∙ ap ofTiming (w .1 .given .1)) refl refl refl)) (w .3 .ensures _ lent)))
       (⊎-elim (λ w.
-      let six = rw (most-six number (omega arith)) at (w .5 .ensures) in
-      subst Meant (sym (w .7)) (subst (Turned lent at _ _ _) (sym (next-is number left (timing-is ∙ ap ofTiming (w .1 .given .1)) refl refl refl))
-      (pairs-turned lent at (w .6 .result) _ _ _ _ six (omega (arith, six .count, some _ (sym (w .3 .ensures) ∙ w .4 .taken))) (run-at-most heldPair number 6 (left .pairs))
+      let six = rw (most-six number (omega arith), start .pre .2) at (w .5 .ensures) in
+      subst Meant (sym (w .7)) (subst (Turned _ lent at _ _ _) (sym (next-is number left (timing-is ∙ ap ofTiming (w .1 .given .1)) refl refl refl))
+      (pairs-turned _ lent at (w .6 .result) _ _ _ _ six (omega (arith, six .count, some _ (sym (w .3 .ensures) ∙ w .4 .taken))) (run-at-most heldPair number 6 (left .pairs))
       (w .6 .ensures .0) (w .6 .ensures .1) (w .6 .ensures .2) _ _)))
       (λ w.
-      subst Meant (sym (w .13)) (subst (Turned lent at _ _ _)
+      subst Meant (sym (w .13)) (subst (Turned _ lent at _ _ _)
       (sym (next-is number left (timing-is ∙ ap ofTiming (w .1 .given .1)) (none _ (sym (w .3 .ensures) ∙ w .4 .left))
-      (points-are (points .items) (points .len) (at .pointed) number (simp length-map at (start .good .1 .0 .1 .1 .1 .1 .1 .0 .1 .1 .1 .0 .1 .1 .0 .1 .0 .1)) _ _ (w .6 .result) (w .8 .result) (w .11 .ensures) (w .6 .ensures) (w .8 .ensures))
-      (sym (w .10 .ensures ∙ own-is held number (entries .items) (entries .len) 3 (at .entered) (simp length-map at (start .good .1 .0 .1 .1 .1 .1 .1 .1 .1 .0 .1 .1 .0 .1 .0 .1)) _))))
-      (w .12 .ensures))))
+      (points-are (points .items) (points .len) (at .pointed) number (simp length-map at (start .good .1 .1 .0 .1 .1 .1 .1 .1 .0 .1 .1 .1 .0 .1 .1 .0 .1 .0 .1)) _ _ (w .6 .result) (w .8 .result) (w .11 .ensures) (w .6 .ensures) (w .8 .ensures))
+      (sym (w .10 .ensures ∙ own-is held number (entries .items) (entries .len) 3 (at .entered) (simp length-map at (start .good .1 .1 .0 .1 .1 .1 .1 .1 .1 .1 .0 .1 .1 .0 .1 .0 .1)) _))))
+      (w .12 .ensures _))))
       (m .match .came)
 
 loop-again : tie.Need-loop-again Inv-loop μ-loop

@@ -7,8 +7,8 @@ use Rattle.standard_writing.proofs.timing_turn.Tie as tie
 
 returns : tie.Need-returns
 returns c =
-    rw (c .turn-of .ensures) (λ lent. (
-      slot-timing lent _ _ _ (c .before .before .timing-bytes .ensures),
+    rw (c .turn-of .ensures) (λ σ lent. (
+      slot-timing σ lent _ _ _ (c .before .before .timing-bytes .ensures),
       record { timed = omega arith; listed = omega arith; pointed = omega arith; entered = omega arith },
     ))
 

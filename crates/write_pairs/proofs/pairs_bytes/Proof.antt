@@ -16,14 +16,14 @@ use Rattle.write_pairs.proofs.pairs_bytes.Statement.{statement}
 use Rattle.write_pairs.proofs.pairs_bytes.Tie as tie
 
 abbrev Inv-loop : tie.InvT-loop
-Inv-loop from number items end limit fits₀ bytes₀ many₀ k₀ fits bytes many k =
-    (many ≤ limit) × (k ≡ from + many) × SoFar (drop from (take end items)) number many fits bytes
+Inv-loop structure from number items end limit fits₀ bytes₀ many₀ k₀ fits bytes many k =
+    (many ≤ limit) × (k ≡ from + many) × SoFar structure (drop from (take end items)) number many fits bytes
 
 abbrev μ-loop : tie.MeasureT-loop
-μ-loop from number items end limit fits₀ bytes₀ many₀ k₀ fits bytes many k = limit - many
+μ-loop structure from number items end limit fits₀ bytes₀ many₀ k₀ fits bytes many k = limit - many
 
 loop-holds : tie.Need-loop-holds Inv-loop μ-loop
-loop-holds c = (search needs, search needs, begun _ _)
+loop-holds c = (search needs, search needs, begun _ _ _)
 
 module _ (l : tie.At-loop Inv-loop μ-loop) where
   abbrev start : tie.Start Inv-loop μ-loop
@@ -39,13 +39,13 @@ module _ (l : tie.At-loop Inv-loop μ-loop) where
   ahead = drop (start .args .from) (take end items)
 
   whole : (end ≤ 26) × (length items ≡ 26)
-  whole = (omega (arith, l .before .before .least .ensures), simp length-map at (start .good .0 .1 .1 .0 .1 .0 .1))
+  whole = (omega (arith, l .before .before .least .ensures), simp length-map at (start .good .1 .0 .1 .1 .0 .1 .0 .1))
 
   -- the loop is left with this run
-  left : WritesPairs (run heldPair (start .args .number) (l .before .most .result) ahead) (l .loop .fits) (l .loop .bytes) (l .loop .many)
-      → WritesPairs (pairsAhead (start .args .list) (start .args .from) (start .args .number)) (l .loop .fits) (l .loop .bytes) (l .loop .many)
+  left : WritesPairs (start .args .structure) (run heldPair (start .args .number) (l .before .most .result) ahead) (l .loop .fits) (l .loop .bytes) (l .loop .many)
+      → WritesPairs (start .args .structure) (pairsAhead (start .args .list) (start .args .from) (start .args .number)) (l .loop .fits) (l .loop .bytes) (l .loop .many)
   left =
-      asked (start .args .list) (start .args .from) (start .args .number) _ _ _ (whole .1) _ (l .before .before .least .ensures) _
+      asked (start .args .structure) (start .args .list) (start .args .from) (start .args .number) _ _ _ (whole .1) _ (l .before .before .least .ensures) _
       (l .before .most .ensures .0)
 
 returns : tie.Need-returns Inv-loop μ-loop

@@ -1,0 +1,13 @@
+-- `standard_parts::structure_of` meets its contract: by its test. Assumes nothing.
+use borrow.Author.Tests.{lt-ltb, le-ltb}
+use Rattle.standard_parts.proofs.structure_of.Statement.{statement}
+use Rattle.standard_parts.proofs.structure_of.Tie as tie
+
+returns : tie.Need-returns
+returns c = simp (lt-ltb _ _ (c .if1 .taken))
+
+returns-2 : tie.Need-returns-2
+returns-2 c = simp (le-ltb _ _ (c .if1 .left))
+
+pub structure-of-spec : {M : Type 1} → statement M
+structure-of-spec = tie.close (tie.spec returns returns-2)
