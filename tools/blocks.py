@@ -90,9 +90,9 @@ def tagged(tag):
 
 
 def revisions():
-    """At revisions 0 to 5 and the last two, each ratio code in each of the 26 places of a pair; 01 00 and 01 01 are among them."""
-    for revision, turn in itertools.product((*range(6), 0xFE, 0xFF), range(4)):
-        every = [(1 + k % 3, (k + turn) % 4 << 6 | k // 13) for k in range(26)]
+    """At revisions 0 to 5 and the last two, each ratio code in each of the 26 places of a pair, at 60 and at 61 Hz, where some are 01 01."""
+    for revision, turn in itertools.product((*range(6), 0xFE, 0xFF), range(8)):
+        every = [(1 + k % 3, (k + turn) % 4 << 6 | turn // 4) for k in range(26)]
         slots = {at: pairs(*every[8 + 6 * i:14 + 6 * i]) for i, at in enumerate(LATER)}
         yield block({19: bytes([revision]), 38: bytes(itertools.chain(*every[:8])), **slots})
 

@@ -1,4 +1,4 @@
-//! The cases of document 01: oracle/cases.txt, which says how a case is written.
+//! The cases of oracle/cases.txt, which says how a case is written.
 
 const SPECIMEN: &[u8; 128] = include_bytes!("../../docs/specimen.bin");
 /// The shortest block that is accepted.

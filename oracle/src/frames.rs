@@ -299,7 +299,7 @@ fn slot_of(tag: u8, dice: &mut Dice) -> Vec<u8> {
 
 // ---- the kinds
 
-/// Every case of document 01, as oracle/cases.txt has them.
+/// Every case of oracle/cases.txt.
 fn case(i: u64, _: &mut Dice) -> Vec<u8> {
     cases().nth(i as usize).expect("as many cases as the kind's size says").0
 }

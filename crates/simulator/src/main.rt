@@ -1,5 +1,6 @@
 // For the simulator's people, to copy from: a record is read from a block, its picture is moved, its name changed, and it is written to a block again;
-// then two records that are refused. Printed are the timing before, and of each writing the answer and the output, of the first the new timing too.
+// then what is refused: an output of another length, and two records. Printed are the timing before, and of each writing the answer and the output, of
+// the first the new timing too.
 use standard_record::Descriptor;
 use standard_record::Held;
 use standard_record::HeldPair;
@@ -33,8 +34,16 @@ fn main() {
     let ten = standard_writing::write_standard(before, lent, &mut short);
     n = tell(&mut out, n, ten, &short);
     let mut kept = [0x55u8; 128];
-    let eleven = standard_writing::write_standard(unwritable(before), lent, &mut kept);
+    // The bytes of 256 wide, 16:10 at 61 Hz would be 01 01, which stand for no pair.
+    let unused = with_pair(before, 256, 16, 10, 61);
+    let eleven = standard_writing::write_standard(unused, lent, &mut kept);
     n = tell(&mut out, n, eleven, &kept);
+    // 1:1 is no ratio of revision 3, which this panel has; of revision 2 it is.
+    let square = with_pair(before, 1280, 1, 1, 60);
+    let eleven = standard_writing::write_standard(square, lent, &mut kept);
+    n = tell(&mut out, n, eleven, &kept);
+    let old = standard_writing::write_standard(of_revision(square, 2), lent, &mut kept);
+    n = tell(&mut out, n, old, &kept);
     io::write_all(1, frames::start(&out, n));
 }
 
@@ -86,19 +95,19 @@ fn renamed(r: StandardRecord) -> StandardRecord {
     edid
 }
 
-// The first pair is 256 wide, 16:10 at 61 Hz: its bytes would be 01 01, which stand for none.
-fn unwritable(r: StandardRecord) -> StandardRecord {
+// The first pair is this one.
+fn with_pair(r: StandardRecord, width: u16, across: u16, down: u16, rate: u16) -> StandardRecord {
     let mut timings = r.timings;
     let mut standard = timings.standard;
     let mut items = standard.items;
     items[0] = HeldPair {
         pair: StandardTiming {
-            width: 256,
+            width,
             ratio: Ratio {
-                width: 16,
-                height: 10,
+                width: across,
+                height: down,
             },
-            rate: 61,
+            rate,
         },
         slot: 0,
     };
@@ -106,5 +115,13 @@ fn unwritable(r: StandardRecord) -> StandardRecord {
     timings.standard = standard;
     let mut edid = r;
     edid.timings = timings;
+    edid
+}
+
+fn of_revision(r: StandardRecord, revision: u8) -> StandardRecord {
+    let mut version = r.version;
+    version.revision = revision;
+    let mut edid = r;
+    edid.version = version;
     edid
 }

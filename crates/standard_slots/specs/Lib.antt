@@ -4,3 +4,4 @@ pub mod Answers
 pub mod Each
 pub mod Few
 pub mod Spans
+pub mod Alike

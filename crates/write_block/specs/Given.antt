@@ -85,7 +85,7 @@ judged-each b (suc n) i h e = go (eqb i n) refl (λ l. judged-each b n i l (then
     go true p before = rw (eqb-true i n p) (then-second (judged b n) (judge (saidIn b n) (start n)) e)
     go false p before = before (omega (arith, eqb-false i n p))
 
-all-split : {A : Type 0} (P : A → Type 0) (xs ys : List A) → All P (xs ++ ys) → All P xs × All P ys
+pub all-split : {A : Type 0} (P : A → Type 0) (xs ys : List A) → All P (xs ++ ys) → All P xs × All P ys
 all-split P [] ys h = (tt, h)
 all-split P (x ∷ xs) ys h = let r = all-split P xs ys (h .1) in ((h .0, r .0), r .1)
 

@@ -1,22 +1,25 @@
 -- What the writer promises: of every answer that its contract allows, and of the canonical block.
-use Prim.Native.Nat.{ℕ}
+use Prim.Native.Nat.{ℕ, _<_, _≤_}
 use mathlib.Core.Path.{_≡_, refl, sym, ap, _∙_}
-use mathlib.Core.List.{List}
+use mathlib.Core.List.{List, _∷_, _++_}
 use native.Mathlib.Omega.{arith}
 use lib.ListN.{length}
+use borrow.Author.Tests.{lt-ltb, le-ltb}
 use Rattle.sums.specs.Sum.{byteSum}
 use Rattle.sums.specs.Joined.{checksum-makes-zero}
 use Rattle.standard_record.specs.Seen.{seen}
 use Rattle.standard_record.specs.declared.StandardRecord.{StandardRecord}
+use Rattle.standard_record.specs.declared.HeldPair.{HeldPair}
 use Rattle.standard_record.specs.declared.Verdict.the-variants.{Accepted}
+use Rattle.standard_parts.specs.Timings.{ratio}
 use Rattle.standard_reading.specs.Block.{standardOf}
 use Rattle.write_leaf.specs.Bytes.{Bytes}
-use Rattle.write_pairs.specs.Pairs.{All}
 use Rattle.write_block.specs.Shown.{shown}
 use Rattle.write_block.specs.Canonical.{body, blockOf}
 use Rattle.write_block.specs.Gives.{SpansInside, Gives, NoneGives, Written, wrong-length, no-block, written}
 use Rattle.write_block.specs.Holds.{structureFrom}
-use Rattle.write_block.specs.Ratios.{otherRatio, own-ratios}
+use Rattle.write_block.specs.Ratios.{Coded, no-16-10, no-1-1, own-ratios}
+use Rattle.write_block.specs.Given.{all-split}
 use Rattle.write_block.specs.Canon.{canonical-gives}
 use Rattle.write_block.specs.Own.{own-inside}
 
@@ -71,10 +74,19 @@ module _ {r : StandardRecord} {lent before after : List ℕ} {number : ℕ} wher
   pub outside-is-refused : Written r lent before number after → length before ≡ 128 → (SpansInside (seen r .descriptors) (length lent) → ⊥) → number ≡ 11
   outside-is-refused w size out = refused-exactly w .1 size (λ b g. out (g .inside))
 
-  -- so is one with a ratio of another structure: 16:10 below revision 3, 1:1 from it on
-  pub other-ratio-is-refused : Written r lent before number after → length before ≡ 128
-      → (All (λ h. h .pair .ratio ≡ otherRatio (structureFrom (seen r)) → ⊥) (seen r .standard) → ⊥) → number ≡ 11
-  other-ratio-is-refused w size other = refused-exactly w .1 size (λ b g. other (own-ratios b r lent g))
+  -- so is one with a pair, wherever it stands, whose ratio no code means in its structure
+  pub uncoded-is-refused : Written r lent before number after → length before ≡ 128 → (fs bs : List HeldPair) (h : HeldPair)
+      → seen r .standard ≡ fs ++ h ∷ bs → (Coded (structureFrom (seen r)) (h .pair .ratio) → ⊥) → number ≡ 11
+  uncoded-is-refused w size fs bs h is none = refused-exactly w .1 size (λ b g. none (all-split _ fs (h ∷ bs) (rw is at (own-ratios b r lent g)) .1 .0))
+
+  -- below revision 3 that is 16:10, from it on 1:1
+  pub old-16-10-is-refused : Written r lent before number after → length before ≡ 128 → seen r .version .revision < 3 → (fs bs : List HeldPair) (h : HeldPair)
+      → seen r .standard ≡ fs ++ h ∷ bs → h .pair .ratio ≡ ratio 16 10 → number ≡ 11
+  old-16-10-is-refused w size old fs bs h is e = uncoded-is-refused w size fs bs h is (λ c. no-16-10 (rw (lt-ltb _ _ old, e) at c))
+
+  pub new-1-1-is-refused : Written r lent before number after → length before ≡ 128 → 3 ≤ seen r .version .revision → (fs bs : List HeldPair) (h : HeldPair)
+      → seen r .standard ≡ fs ++ h ∷ bs → h .pair .ratio ≡ ratio 1 1 → number ≡ 11
+  new-1-1-is-refused w size new fs bs h is e = uncoded-is-refused w size fs bs h is (λ c. no-1-1 (rw (le-ltb _ _ new, e) at c))
 
 -- the record of every accepted block is written
 pub read-is-written : (b : List ℕ) {before after : List ℕ} {number : ℕ} → Bytes b → standardOf b .end ≡ Accepted

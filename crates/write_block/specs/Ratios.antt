@@ -1,8 +1,10 @@
--- A record that a block gives has no ratio of another structure: no 16:10 below revision 3, no 1:1 from it on.
+-- In a record that a block gives each pair has a ratio that some code means in the record's structure.
 use Prim.Native.Nat.{ℕ, _<_}
-use mathlib.Core.Path.{_≡_, ap, subst}
+use mathlib.Core.Path.{_≡_, refl, subst}
+use mathlib.Core.Bool.{Bool, true, false, cond}
 use mathlib.Core.List.{List, [], _∷_, map, append-nil}
 use native.Mathlib.Omega.{arith}
+use lib.Dec.{eqb}
 use Rattle.bits.specs.Bytes.{part}
 use Rattle.standard_record.specs.Seen.{Seen, seen}
 use Rattle.standard_record.specs.Held.{heldPair}
@@ -10,14 +12,12 @@ use Rattle.standard_record.specs.declared.Ratio.{Ratio}
 use Rattle.standard_record.specs.declared.StandardTiming.{StandardTiming}
 use Rattle.standard_record.specs.declared.StandardRecord.{StandardRecord}
 use Rattle.standard_record.specs.declared.HeldPair.{HeldPair}
-use Rattle.standard_parts.specs.Timings.{ratio, ratioOf}
+use Rattle.standard_parts.specs.Timings.{ratio, firstRatio, ratioOf}
 use Rattle.standard_parts.specs.declared.Structure.{Structure}
-use Rattle.standard_parts.specs.declared.Structure.the-variants.{Below3, From3}
 use Rattle.standard_slots.specs.Said.{said}
 use Rattle.standard_reading.specs.Slots.{start}
 use Rattle.write_leaf.specs.Bytes.{Bytes}
-use Rattle.write_parts.specs.Pair.{ratioCode}
-use Rattle.write_parts.specs.Pairs.{own-ratio}
+use Rattle.write_parts.specs.Pairs.{ratio-code}
 use Rattle.write_pairs.specs.Pairs.{All, ReadFrom}
 use Rattle.write_pairs.specs.Laws.{all-read, all-append}
 use Rattle.write_slots.specs.Words.{words, these, entries, shows}
@@ -29,14 +29,28 @@ use Rattle.write_block.specs.Turns.{all-wrapped, all-turns}
 use Rattle.write_block.specs.Slots.{all-turns as lists-are}
 use Rattle.write_block.specs.Given.{eight-read, slot-bytes, slot-holds, used-up}
 
--- what code 0 means in the other structure
-abbrev pub otherRatio : Structure → Ratio
-otherRatio Below3 = ratio 16 10
-otherRatio From3 = ratio 1 1
+-- some code means it
+abbrev pub Coded : Structure → Ratio → Type 0
+Coded σ r = (code : ℕ) × (ratioOf σ code ≡ r)
 
-no-other : (σ : Structure) → ratioOf σ (ratioCode (otherRatio σ)) ≡ otherRatio σ → ⊥
-no-other Below3 e = omega (arith, ap (λ (r : Ratio). r .width) e)
-no-other From3 e = omega (arith, ap (λ (r : Ratio). r .width) e)
+-- what holds of the four ratios of a structure holds of each that is coded
+of-four : (P : Ratio → Type 0) (σ : Structure) → P (firstRatio σ) → P (ratio 4 3) → P (ratio 5 4) → P (ratio 16 9) → (r : Ratio) → Coded σ r → P r
+of-four P σ first second third fourth r (code, e) = subst P e (go (eqb code 0) (eqb code 1) (eqb code 2))
+  where
+    go : (x y z : Bool) → P (cond x (firstRatio σ) (cond y (ratio 4 3) (cond z (ratio 5 4) (ratio 16 9))))
+    go true y z = first
+    go false true z = second
+    go false false true = third
+    go false false false = fourth
+
+-- below revision 3 no code means 16:10, from it on none means 1:1
+pub no-16-10 : Coded Structure.Below3 (ratio 16 10) → ⊥
+no-16-10 h = of-four (λ r. r .height ≡ 10 → ⊥) Structure.Below3 (λ e. omega arith) (λ e. omega arith) (λ e. omega arith) (λ e. omega arith) (ratio 16 10) h refl
+
+pub no-1-1 : Coded Structure.From3 (ratio 1 1) → ⊥
+no-1-1 h = of-four (λ r. r .width ≡ 1 → ⊥) Structure.From3 (λ e. omega arith) (λ e. omega arith) (λ e. omega arith) (λ e. omega arith) (ratio 1 1) h refl
+
+-- ---- the record
 
 module _ (b : List ℕ) (r : StandardRecord) (lent : List ℕ) (g : Gives b r lent) where
   abbrev x : Seen
@@ -53,14 +67,13 @@ module _ (b : List ℕ) (r : StandardRecord) (lent : List ℕ) (g : Gives b r le
       go t h [] e = tt
       go t h (p ∷ ps) e = subst (All (ReadFrom σ)) (shown-pairs σ 1 t p ps _ _ _ e) (all-read σ t h 5 6)
 
-  -- two bytes are read as it, and it has no other ratio
   abbrev Own : HeldPair → Type 0
-  Own h = h .pair .ratio ≡ otherRatio σ → ⊥
+  Own h = Coded σ (h .pair .ratio)
 
   own : (n : ℕ) (p : StandardTiming) → ReadFrom σ p → Own (heldPair .wrap n p)
-  own n p read e = no-other σ (subst (λ r. ratioOf σ (ratioCode r) ≡ r) e (own-ratio σ (read .first) (read .second) (read .second-is-byte) p (read .read)))
+  own n p read = ratio-code σ (read .first) (read .second) p (read .read)
 
-  pub own-ratios : All (λ (h : HeldPair). h .pair .ratio ≡ otherRatio (structureFrom (seen r)) → ⊥) (seen r .standard)
+  pub own-ratios : All (λ (h : HeldPair). Coded (structureFrom (seen r)) (h .pair .ratio)) (seen r .standard)
   own-ratios =
       rw (lists-are x 4 .pairs, used-up b r lent g .pairs, append-nil)
       (all-append Own (map (heldPair .wrap 0) (eight x)) _ (all-wrapped heldPair (ReadFrom σ) Own own 0 (eight x) (eight-read b r lent g))

@@ -190,6 +190,8 @@ cases =
     -- 16:10 there, before the slots, and in one
     ∷ refusal (panelOf 2 (first 40000000 40) (heldPair .wrap 0 (mode 1280 16 10 60) ∷ []) []) []
     ∷ refusal (panelOf 2 (first 40000000 40) (heldPair .wrap 2 (mode 1920 16 10 60) ∷ []) []) []
+    -- 256 wide, 1:1 at 61 Hz there, which 01 01 would be
+    ∷ refusal (panelOf 2 (first 40000000 40) (heldPair .wrap 0 (mode 256 1 1 61) ∷ []) []) []
     -- 1:1 at revision 3, before the slots, and in one
     ∷ refusal (panelOf 3 (first 40000000 40) (heldPair .wrap 0 (mode 1280 1 1 60) ∷ []) []) []
     ∷ refusal (panelOf 3 (first 40000000 40) (heldPair .wrap 2 (mode 1920 1 1 60) ∷ []) []) []
@@ -275,6 +277,7 @@ all-written =
     also written refl (record { bytes = bytes-by (ratioBlock 2 0xc3) refl; accepted = refl; inside = (omega arith, (omega arith, tt)); same = refl }) refl refl
     also no-block refl (unlike _ _ (λ s. ratio (s .standard)) refl) refl refl
     also no-block refl (unlike _ _ (λ s. ratio (s .standard)) refl) refl refl
+    also no-block refl (unlike _ _ (λ s. length (s .standard)) refl) refl refl
     also no-block refl (unlike _ _ (λ s. ratio (s .standard)) refl) refl refl
     also no-block refl (unlike _ _ (λ s. ratio (s .standard)) refl) refl refl
     also tt

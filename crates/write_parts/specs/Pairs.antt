@@ -54,12 +54,12 @@ bytes-back σ a b ha hb v h =
     let e = listed (eqb a 1 && eqb b 1) (record { width = (a + 31) * 8; ratio = ratioOf σ (digits b 6 2); rate = digits b 0 6 + 60 }) v h in
     (rw (← e) (omega arith), rw (← e) (rw (code-back σ (digits b 6 2) (omega arith)) (omega arith)))
 
--- the ratio of a pair that is read is the structure's, of its own code
-pub own-ratio : (σ : Structure) (a b : ℕ) → b < 256 → (v : StandardTiming) → pairOf σ a b ≡ Pair.Listed v → ratioOf σ (ratioCode (v .ratio)) ≡ v .ratio
+-- the ratio of a pair that is read is that of a code
+pub ratio-code : (σ : Structure) (a b : ℕ) (v : StandardTiming) → pairOf σ a b ≡ Pair.Listed v → (code : ℕ) × (ratioOf σ code ≡ v .ratio)
 unfolding pairOf
-own-ratio σ a b hb v h =
-    let e = listed (eqb a 1 && eqb b 1) (record { width = (a + 31) * 8; ratio = ratioOf σ (digits b 6 2); rate = digits b 0 6 + 60 }) v h in
-    rw (← e) (ap (ratioOf σ) (code-back σ (digits b 6 2) (omega arith)))
+ratio-code σ a b v h =
+    let made : StandardTiming = record { width = (a + 31) * 8; ratio = ratioOf σ (digits b 6 2); rate = digits b 0 6 + 60 } in
+    (digits b 6 2, ap (λ (w : StandardTiming). w .ratio) (listed (eqb a 1 && eqb b 1) made v h))
 
 pub writes-pair : (σ : Structure) (v : StandardTiming) → WritesPair σ v (samePair (pairOf σ (pairLow v) (pairHigh v)) v) (pairLow v, pairHigh v)
 writes-pair σ v = record {
