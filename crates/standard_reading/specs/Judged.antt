@@ -13,7 +13,7 @@ use Rattle.standard_verdict.specs.Laws.{then-first, has-128, Bounded, then-boun
 use Rattle.standard_slots.specs.Said.{lists}
 use Rattle.standard_slots.specs.Each.{each}
 use Rattle.standard_slots.specs.Spans.{Sounds, sounds-append, sound-slot}
-use Rattle.standard_reading.specs.Slots.{start, structureIn, saidIn, judge, judged, verdictOf}
+use Rattle.standard_reading.specs.Slots.{start, saidIn, judge, judged, verdictOf}
 use Rattle.standard_reading.specs.Block.{descriptorsOf, recordOf, beside, standardOf}
 
 -- the end is the verdict
@@ -29,7 +29,7 @@ module _ (s : List ℕ) where
   -- a slot is refused by 3 to 6, at its start
   bounded-slot : (i : ℕ) → i < 4 → Bounded (judge (saidIn s i) (start i))
   bounded-slot i h =
-      each (λ x. Bounded (judge x (start i))) (structureIn s) (part s (start i) 18) (start i) (record {
+      each (λ x. Bounded (judge x (start i))) _ (part s (start i) 18) (start i) (record {
         refused = λ n k l. omega arith;
         none = tt;
         timed = λ d. tt;
@@ -60,7 +60,7 @@ module _ (s : List ℕ) where
   sounds-after whole zero h = tt
   sounds-after whole (suc n) h =
       sounds-append s (descriptorsOf s n) (map (held .wrap (n + 1)) (lists (saidIn s n) .descriptors)) _
-      (sounds-after whole n (omega arith)) (sound-slot s (start n) _ (omega arith) (omega arith) (structureIn s) (n + 1) n)
+      (sounds-after whole n (omega arith)) (sound-slot s (start n) _ (omega arith) (omega arith) _ (n + 1) n)
 
   pub sounds : standardOf s .end ≡ Accepted → Sounds s (descriptorsOf s 4) 126
   sounds e = sounds-after (accepted-has-128 e) 4 (omega arith)

@@ -23,10 +23,10 @@ use Rattle.standard_reading.specs.Judged.{end-is-verdict}
 
 module _ (s : List ℕ) where
   few-in : (i : ℕ) → Few (saidIn s i)
-  few-in i = few (structureIn s) i (part s (start i) 18) (start i)
+  few-in i = few _ i (part s (start i) 18) (start i)
 
   first-in : NoneButTimings (saidIn s 0)
-  first-in = first-slot (structureIn s) (part s (start 0) 18) (start 0)
+  first-in = first-slot _ (part s (start 0) 18) (start 0)
 
   pub timings-room : (n : ℕ) → length (timingsOf s n) ≤ n
   timings-room n = omega (arith, turns-at-most heldTiming (λ i. lists (saidIn s i) .timings) 1 (λ i. few-in i .timings) n)
