@@ -79,7 +79,7 @@ module _ {r : StandardRecord} {lent before after : List ℕ} {number : ℕ} wher
       → seen r .standard ≡ fs ++ h ∷ bs → (Coded (structureFrom (seen r)) (h .pair .ratio) → ⊥) → number ≡ 11
   uncoded-is-refused w size fs bs h is none = refused-exactly w .1 size (λ b g. none (all-split _ fs (h ∷ bs) (rw is at (own-ratios b r lent g)) .1 .0))
 
-  -- below revision 3 that is 16:10, from it on 1:1
+  -- of 16:10 that is so below revision 3, of 1:1 from it on
   pub old-16-10-is-refused : Written r lent before number after → length before ≡ 128 → seen r .version .revision < 3 → (fs bs : List HeldPair) (h : HeldPair)
       → seen r .standard ≡ fs ++ h ∷ bs → h .pair .ratio ≡ ratio 16 10 → number ≡ 11
   old-16-10-is-refused w size old fs bs h is e = uncoded-is-refused w size fs bs h is (λ c. no-16-10 (rw (lt-ltb _ _ old, e) at c))
