@@ -48,18 +48,22 @@ listed : (z : Bool) (w v : StandardTiming) → cond z Pair.Skipped (Pair.Listed 
 listed true w v h = cc
 listed false w v h = cc
 
-bytes-back : (σ : Structure) (a b : ℕ) → a < 256 → b < 256 → (v : StandardTiming) → pairOf σ a b ≡ Pair.Listed v → (pairLow v ≡ a) × (pairHigh v ≡ b)
+-- what two bytes that are not 01 01 are read as
+abbrev made : Structure → ℕ → ℕ → StandardTiming
+made σ a b = record { width = (a + 31) * 8; ratio = ratioOf σ (digits b 6 2); rate = digits b 0 6 + 60 }
+
+is-made : (σ : Structure) (a b : ℕ) (v : StandardTiming) → pairOf σ a b ≡ Pair.Listed v → made σ a b ≡ v
 unfolding pairOf
+is-made σ a b v h = listed (eqb a 1 && eqb b 1) (made σ a b) v h
+
+bytes-back : (σ : Structure) (a b : ℕ) → a < 256 → b < 256 → (v : StandardTiming) → pairOf σ a b ≡ Pair.Listed v → (pairLow v ≡ a) × (pairHigh v ≡ b)
 bytes-back σ a b ha hb v h =
-    let e = listed (eqb a 1 && eqb b 1) (record { width = (a + 31) * 8; ratio = ratioOf σ (digits b 6 2); rate = digits b 0 6 + 60 }) v h in
+    let e = is-made σ a b v h in
     (rw (← e) (omega arith), rw (← e) (rw (code-back σ (digits b 6 2) (omega arith)) (omega arith)))
 
 -- the ratio of a pair that is read is that of a code
 pub ratio-code : (σ : Structure) (a b : ℕ) (v : StandardTiming) → pairOf σ a b ≡ Pair.Listed v → (code : ℕ) × (ratioOf σ code ≡ v .ratio)
-unfolding pairOf
-ratio-code σ a b v h =
-    let made : StandardTiming = record { width = (a + 31) * 8; ratio = ratioOf σ (digits b 6 2); rate = digits b 0 6 + 60 } in
-    (digits b 6 2, ap (λ (w : StandardTiming). w .ratio) (listed (eqb a 1 && eqb b 1) made v h))
+ratio-code σ a b v h = (digits b 6 2, ap (λ (w : StandardTiming). w .ratio) (is-made σ a b v h))
 
 pub writes-pair : (σ : Structure) (v : StandardTiming) → WritesPair σ v (samePair (pairOf σ (pairLow v) (pairHigh v)) v) (pairLow v, pairHigh v)
 writes-pair σ v = record {
