@@ -1,11 +1,8 @@
 -- Nothing to believe: a push as the code makes it. What it makes of the fixed list of a plain one is the fixed list with one element more;
 -- pushed one after the other, elements go behind those that are there.
-use Prim.Native.Nat.{ℕ}
 use mathlib.Core.Path.{_≡_, refl, sym, ap, _∙_}
 use mathlib.Core.List.{List, [], _∷_, _++_, append-assoc, append-nil}
 use Rattle.fixed.specs.Fixed.{put, more, put-pad, more-count}
-use Rattle.shared_record.specs.Established.{establishedTimings}
-use Rattle.shared_record.specs.declared.EstablishedTimings.{EstablishedTimings}
 use Rattle.crate_record.specs.Filler.{blankStandard, blankWhite, blankHeld, blankDetailed}
 use Rattle.crate_record.specs.Lists.{standardTimings, detailedTimings, whitePoints, descriptors, pushStandard, pushed}
 use Rattle.crate_record.specs.declared.StandardTiming.{StandardTiming}
@@ -17,9 +14,6 @@ use Rattle.crate_record.specs.declared.Held.{Held}
 use Rattle.crate_record.specs.declared.MonitorDescriptor.{MonitorDescriptor}
 use Rattle.crate_record.specs.declared.MonitorDescriptors.{MonitorDescriptors}
 
-unfoldable pub pushFlag : EstablishedTimings → ℕ → EstablishedTimings
-pushFlag l v = record { items = put 17 (l .items) (l .len) v; len = more 17 (l .len) }
-
 unfoldable pub pushDetailed : DetailedTimings → DetailedTiming → DetailedTimings
 pushDetailed l v = record { items = put 4 (l .items) (l .len) v; len = more 4 (l .len) }
 
@@ -30,10 +24,6 @@ unfoldable pub pushDescriptor : MonitorDescriptors → MonitorDescriptor → Mon
 pushDescriptor l v = record { items = put 3 (l .items) (l .len) (record { descriptor = v }); len = more 3 (l .len) }
 
 -- ---- one
-
-pub push-flag : (ys : List ℕ) (v : ℕ) → pushFlag (establishedTimings ys) v ≡ establishedTimings (ys ++ v ∷ [])
-unfolding pushFlag
-push-flag ys v = λ i. record { items = put-pad 17 0 v ys i; len = more-count 17 v ys i }
 
 push-standard : (ys : List StandardTiming) (v : StandardTiming) → pushStandard (standardTimings ys) v ≡ standardTimings (ys ++ v ∷ [])
 unfolding pushStandard

@@ -1,12 +1,9 @@
--- Nothing to believe: how the code fills its lists, flag by flag and pair by pair, and that this comes to the fixed lists of the plain ones.
+-- Nothing to believe: how the code reads the flags and fills its list pair by pair, and that this comes to the fixed lists of the plain ones.
 use Prim.Native.Nat.{ℕ, zero, suc, _+_, _-_, _<_, _≤_}
 use mathlib.Core.Path.{_≡_, refl, sym, ap, _∙_}
-use mathlib.Core.Bool.{Bool, true, false, cond}
-use mathlib.Core.List.{List, [], _++_, append-nil}
+use mathlib.Core.List.{List, [], _++_}
 use lib.ListN.{set}
-use Rattle.bits.specs.Fields.{bit}
 use Rattle.fixed.specs.Fixed.{put-room, more-room, put-full, more-full}
-use Rattle.fixed.specs.Gather.{gather, when}
 use Rattle.steps.specs.Steps.{Steps, done, _>>=_, _>>_, refused, run, map}
 use Rattle.steps.specs.Leaves.{byte, word}
 use Rattle.steps.specs.Laws.{step, same-run, zero-left, then-then, then-same}
@@ -16,7 +13,7 @@ use Rattle.steps.specs.declared.Refusal.{Refusal}
 use Rattle.shared_record.specs.Established.{establishedTimings}
 use Rattle.shared_record.specs.declared.EstablishedTimings.{EstablishedTimings}
 use Rattle.crate_record.specs.Lists.{standardTimings, pushStandard, pushed}
-use Rattle.crate_record.specs.Filling.{pushFlag, push-flag, standards-behind}
+use Rattle.crate_record.specs.Filling.{standards-behind}
 use Rattle.crate_record.specs.declared.StandardTiming.{StandardTiming}
 use Rattle.crate_record.specs.declared.StandardTimings.{StandardTimings}
 use Rattle.crate_timings.specs.declared.Pair.{Pair}
@@ -28,32 +25,6 @@ use Rattle.crate_timings.specs.Pairs.{pair, listed, pairs}
 use Rattle.crate_timings.specs.Answers.{ofPair}
 
 -- ---- flags
-
--- the list in an array, with how many are listed
-abbrev pub flagsIn : List ℕ → ℕ → EstablishedTimings
-flagsIn items len = record { items = items; len = len }
-
--- n is listed where its flag is on
-unfoldable pub flag : Bool → ℕ → EstablishedTimings → EstablishedTimings
-flag on n l = cond on (pushFlag l n) l
-
--- after the first n digits of ft
-abbrev pub flagged : ℕ → ℕ → EstablishedTimings
-flagged ft zero = establishedTimings []
-flagged ft (suc n) = flag (bit ft n) n (flagged ft n)
-
-flag-behind : (on : Bool) (n : ℕ) (ys : List ℕ) → flag on n (establishedTimings ys) ≡ establishedTimings (ys ++ when on n)
-unfolding flag
-flag-behind true n ys = push-flag ys n
-flag-behind false n ys = ap establishedTimings (sym (append-nil ys))
-
-gathered : (ft n : ℕ) → flagged ft n ≡ establishedTimings (gather (λ k. when (bit ft k) k) n)
-gathered ft zero = refl
-gathered ft (suc n) = ap (flag (bit ft n) n) (gathered ft n) ∙ flag-behind (bit ft n) n (gather (λ k. when (bit ft k) k) n)
-
-pub all-flagged : (ft last : ℕ) → flag (bit last 7) 16 (flagged ft 16) ≡ establishedTimings (flagsOf ft last)
-unfolding flagsOf
-all-flagged ft last = ap (flag (bit last 7) 16) (gathered ft 16) ∙ flag-behind (bit last 7) 16 (gather (λ k. when (bit ft k) k) 16)
 
 unfoldable pub fillEstablished : Steps EstablishedTimings
 fillEstablished = do

@@ -16,7 +16,6 @@ ghost use Rattle.shared_record.specs.Established.{establishedTimings};
 ghost use Rattle.crate_record.specs.Lists.{standardTimings};
 ghost use Rattle.crate_timings.specs.Established.{flagsOf, established};
 ghost use Rattle.crate_timings.specs.Pairs.{standardTimingOf, pairOf, pair, pairs};
-ghost use Rattle.crate_timings.specs.Filling.{flagsIn, flag};
 ghost use Rattle.crate_timings.specs.Answers.{ofPair};
 
 // The list, and beside it how its reading ended; empty where it was refused.
@@ -50,41 +49,24 @@ fn no_flags() -> EstablishedTimings
     }
 }
 
-// n is listed where its flag is on; how many are listed then.
-fn list_if(items: &mut [u8; 17], len: usize, on: bool, n: u8) -> usize
-    ensures { λ r. ⌜ flagsIn (now (items .exit)) r ≡ flag on n (flagsIn (now (items .entry)) len) ⌝ }
-{
-    if on {
-        if len < 17 {
-            items[len] = n;
-            return len + 1;
-        }
-    }
-    len
-}
-
+// One walk over the digits of ft, 0 first: each that is on lists its number. The last flag stands in a byte of its own, and comes behind.
 fn established_of(ft: u16, last: u8) -> EstablishedTimings
     ensures { λ r. ⌜ r ≡ establishedTimings (flagsOf ft last) ⌝ }
 {
     let mut items = [0u8; 17];
     let mut len = 0;
-    len = list_if(&mut items, len, bits::is_set16(ft, 0), 0);
-    len = list_if(&mut items, len, bits::is_set16(ft, 1), 1);
-    len = list_if(&mut items, len, bits::is_set16(ft, 2), 2);
-    len = list_if(&mut items, len, bits::is_set16(ft, 3), 3);
-    len = list_if(&mut items, len, bits::is_set16(ft, 4), 4);
-    len = list_if(&mut items, len, bits::is_set16(ft, 5), 5);
-    len = list_if(&mut items, len, bits::is_set16(ft, 6), 6);
-    len = list_if(&mut items, len, bits::is_set16(ft, 7), 7);
-    len = list_if(&mut items, len, bits::is_set16(ft, 8), 8);
-    len = list_if(&mut items, len, bits::is_set16(ft, 9), 9);
-    len = list_if(&mut items, len, bits::is_set16(ft, 10), 10);
-    len = list_if(&mut items, len, bits::is_set16(ft, 11), 11);
-    len = list_if(&mut items, len, bits::is_set16(ft, 12), 12);
-    len = list_if(&mut items, len, bits::is_set16(ft, 13), 13);
-    len = list_if(&mut items, len, bits::is_set16(ft, 14), 14);
-    len = list_if(&mut items, len, bits::is_set16(ft, 15), 15);
-    len = list_if(&mut items, len, bits::is_set(last, 7), 16);
+    let mut k: u8 = 0;
+    while k < 16 {
+        if bits::is_set16(ft, k) {
+            items[len] = k;
+            len += 1;
+        }
+        k += 1;
+    }
+    if bits::is_set(last, 7) {
+        items[len] = 16;
+        len += 1;
+    }
     EstablishedTimings { items, len }
 }
 
