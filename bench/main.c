@@ -20,6 +20,19 @@ static uint8_t out[128];
 static uint64_t once(const uint8_t *block, size_t length) { return written_once(block, length, out, sizeof out); }
 static uint64_t twice(const uint8_t *block, size_t length) { return written_twice(block, length, out, sizeof out); }
 
+/* A whole block in bursts of one size, from a fresh state on. */
+static uint64_t in_bursts(const uint8_t *block, size_t length, size_t size)
+{
+    uint8_t state[EDID_BURSTS] = {0};
+    uint64_t last = EDID_WAITING;
+    for (size_t at = 0; at < length; at += size)
+        last = edid_burst(state, block + at, length - at < size ? length - at : size);
+    return last;
+}
+static uint64_t one_burst(const uint8_t *block, size_t length) { return in_bursts(block, length, length); }
+static uint64_t bursts_of_8(const uint8_t *block, size_t length) { return in_bursts(block, length, 8); }
+static uint64_t byte_by_byte(const uint8_t *block, size_t length) { return in_bursts(block, length, 1); }
+
 static const struct {
     const char *name;
     side *call;
@@ -32,6 +45,9 @@ static const struct {
     {"refusal_number", refusal_number},
     {"bytes_taken", bytes_taken},
     {"sum_is_zero", sum_is_zero},
+    {"one_burst", one_burst},
+    {"bursts_of_8", bursts_of_8},
+    {"byte_by_byte", byte_by_byte},
     {"rust_record", rust_record},
     {"rust_parse", rust_parse},
     {"c_sum", c_sum},

@@ -1,5 +1,5 @@
-/* What a controller does with the block that a panel sends: it takes it in bursts, asks the three answers, and prints what a service desk
- * wants to read. A slot of white points with one point takes 23 bytes, so a whole block may be too short: then the controller takes the
+/* What a controller does with the block that a panel sends: it hands on each burst as it comes, and prints what a service desk wants to
+ * read. A slot of white points with one point takes 23 bytes, so a whole block may be too short: then the controller takes the
  * extension too, if byte 126 says that there is one.
  *     controller [FILE]       as /sys/class/drm/card0-HDMI-A-1/edid; standard input where no FILE is named
  * Exit status: 0 accepted and the checksum is right, 1 not so, 2 nothing could be read. */
@@ -25,9 +25,8 @@ static const char *sentence(uint32_t number, size_t taken)
     }
 }
 
-static void print_answer(const uint8_t *block, size_t length, uint32_t number)
+static void print_answer(uint32_t number, size_t taken)
 {
-    size_t taken = edid_bytes_taken(block, length);
     if (number == 0)
         printf("accepted after %zu bytes\n", taken);
     else
@@ -51,20 +50,21 @@ int main(int argc, char **argv)
         perror(argv[1]);
         return 2;
     }
-    uint8_t block[2 * BLOCK]; /* and its first extension: 142 bytes are enough for every answer */
-    size_t length = 0, wanted = BLOCK, burst;
-    uint32_t number;
-    do { /* a number above 1 is final: no byte that is still to come changes it */
-        burst = fread(block + length, 1, wanted - length < BURST ? wanted - length : BURST, source);
-        length += burst;
-        number = edid_refusal_number(block, length);
-        if (length == BLOCK && number == 1 && block[EXTENSIONS] > 0)
+    uint8_t state[EDID_BURSTS] = {0}, burst[BURST]; /* the state begins with the bytes that came */
+    size_t length = 0, wanted = BLOCK, came;
+    uint32_t told;
+    do { /* once the block is accepted, only the rest of it is awaited, for its sum */
+        came = fread(burst, 1, wanted - length < BURST ? wanted - length : BURST, source);
+        length += came;
+        told = edid_burst(state, burst, came);
+        if (length == BLOCK && told == EDID_WAITING && state[EXTENSIONS] > 0)
             wanted = 2 * BLOCK;
-    } while (burst > 0 && number <= 1);
+    } while (came > 0 && (told == EDID_WAITING || told == 0));
     if (ferror(source)) {
         perror("controller");
         return 2;
     }
-    print_answer(block, length, number);
-    return print_checksum(block, length) && number == 0 ? 0 : 1;
+    uint32_t number = edid_burst_number(state);
+    print_answer(number, edid_burst_taken(state));
+    return print_checksum(state, length) && number == 0 ? 0 : 1;
 }

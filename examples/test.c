@@ -1,4 +1,4 @@
-/* Holds the three answers to what is written here, over blocks made from docs/specimen.bin.
+/* Holds the answers to what is written here, over blocks made from docs/specimen.bin, at once and in bursts.
  *     test FILE       the specimen
  * Exit status: 0 all answers are as written, 1 some is not. */
 #include <stdio.h>
@@ -9,6 +9,21 @@ enum { BLOCK = 128, LONGER = 136 };
 
 static unsigned asked, failed;
 
+/* In bursts of one size, an empty one before each: nothing is told before the last byte that is taken, and then the number, to the end. The bytes
+ * behind the state keep their value. */
+static bool in_bursts(const uint8_t *block, size_t length, size_t size, uint32_t number, size_t taken)
+{
+    uint8_t state[EDID_BURSTS + 1] = {[EDID_BURSTS] = 0xa5};
+    bool right = true;
+    for (size_t at = 0; at < length; at += size) {
+        size_t came = length - at < size ? length - at : size;
+        uint32_t before = number == 1 || at < taken ? EDID_WAITING : number;
+        uint32_t after = number == 1 || at + came < taken ? EDID_WAITING : number;
+        right &= edid_burst(state, NULL, 0) == before && edid_burst(state, block + at, came) == after;
+    }
+    return right && state[EDID_BURSTS] == 0xa5 && edid_burst_number(state) == number && edid_burst_taken(state) == taken;
+}
+
 static void expect(const char *what, size_t at, const uint8_t *block, size_t length, uint32_t number, size_t taken)
 {
     uint8_t sum = 0;
@@ -18,6 +33,11 @@ static void expect(const char *what, size_t at, const uint8_t *block, size_t len
     size_t its_taken = edid_bytes_taken(block, length);
     bool its_zero = edid_sum_is_zero(block, length);
     asked++;
+    for (size_t size = 1; size <= length; size++)
+        if (!in_bursts(block, length, size, number, taken)) {
+            failed++;
+            printf("FAILED: %s %zu, in bursts of %zu\n", what, at, size);
+        }
     if (its_number == number && its_taken == taken && its_zero == (sum == 0))
         return;
     failed++;
@@ -69,6 +89,6 @@ int main(int argc, char **argv)
     memcpy(block + 108, white, sizeof white);
     for (size_t length = BLOCK; length <= LONGER; length++)
         expect("white points, cut at", length, block, length, length < 132, length < 132 ? length : 132);
-    printf("C: %u blocks, %u answered otherwise than written\n", asked, failed);
+    printf("C: %u blocks, each also in bursts of every size, %u answered otherwise than written\n", asked, failed);
     return failed != 0;
 }

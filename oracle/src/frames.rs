@@ -1,22 +1,10 @@
-//! Makes frames: `oracle gen [--seed S] [--count N] [--all] >FRAMES`. The same seed and count give the same frames.
-//!
-//! Each kind of frame is a numbered space. The small ones are taken whole, in the order below; what is left of the count is shared
-//! evenly by the large ones, each sampled by the seed, or taken whole where its share is as large. With `--all` every space that ends
-//! is taken whole and the count goes to those that do not. How many frames of which kind stand where is printed on standard error.
+//! Makes frames: `oracle gen [--seed S] [--count N] [--all] >FRAMES`; kinds.rs says how many of each kind.
 
 use crate::cases::cases;
-use std::io::{self, BufWriter, Write};
+use crate::kinds::{self, put_run, Dice, Kind, ENDLESS};
+use std::io;
 
-struct Kind {
-    name: &'static str,
-    size: u64,
-    make: fn(u64, &mut Dice) -> Vec<u8>,
-}
-
-const ENDLESS: u64 = u64::MAX;
-const SMALL: u64 = 4000;
-
-fn kinds() -> [Kind; 20] {
+pub fn kinds() -> [Kind<Vec<u8>>; 20] {
     [
         Kind { name: "case", size: cases().count() as u64, make: case },
         Kind { name: "length", size: 2 * 301, make: length },
@@ -42,79 +30,10 @@ fn kinds() -> [Kind; 20] {
 }
 
 pub fn generate(args: &[String]) -> io::Result<()> {
-    let (mut seed, mut count, mut all) = (1, 100_000, false);
-    let mut words = args.iter();
-    while let Some(word) = words.next() {
-        let mut number = || words.next().and_then(|n| n.parse().ok()).unwrap_or_else(|| crate::stop("a number is wanted"));
-        match word.as_str() {
-            "--seed" => seed = number(),
-            "--count" => count = number(),
-            "--all" => all = true,
-            _ => crate::stop("gen takes --seed S, --count N and --all"),
-        }
-    }
-    let mut out = BufWriter::with_capacity(1 << 16, io::stdout());
-    let mut dice = Dice(seed);
-    let kinds = kinds();
-    for (kind, wanted) in kinds.iter().zip(shares(&kinds, count, all)) {
-        eprintln!("{} {}", kind.name, wanted);
-        for i in 0..wanted {
-            let frame = (kind.make)(if wanted == kind.size { i } else { dice.below(kind.size) }, &mut dice);
-            out.write_all(&(frame.len() as u16).to_le_bytes())?;
-            out.write_all(&frame)?;
-        }
-    }
-    out.flush()
+    kinds::generate(args, &kinds(), |out, frame| put_run(out, &frame))
 }
-
-/// How many frames of each kind.
-fn shares(kinds: &[Kind], count: u64, all: bool) -> Vec<u64> {
-    let mut left = count;
-    let mut shares = Vec::new();
-    for (i, kind) in kinds.iter().enumerate() {
-        let most = if kind.size <= SMALL { left } else { left / (kinds.len() - i) as u64 };
-        let share = if all && kind.size != ENDLESS { kind.size } else { kind.size.min(most) };
-        if !all || kind.size == ENDLESS {
-            left -= share;
-        }
-        shares.push(share);
-    }
-    shares
-}
-
-/// Numbers by a seed: SplitMix64.
-struct Dice(u64);
 
 impl Dice {
-    fn next(&mut self) -> u64 {
-        self.0 = self.0.wrapping_add(0x9e37_79b9_7f4a_7c15);
-        let mut z = self.0;
-        z = (z ^ z >> 30).wrapping_mul(0xbf58_476d_1ce4_e5b9);
-        z = (z ^ z >> 27).wrapping_mul(0x94d0_49bb_1331_11eb);
-        z ^ z >> 31
-    }
-
-    fn below(&mut self, n: u64) -> u64 {
-        self.next() % n
-    }
-
-    /// True once in n throws.
-    fn one_in(&mut self, n: u64) -> bool {
-        self.below(n) == 0
-    }
-
-    fn byte(&mut self) -> u8 {
-        self.next() as u8
-    }
-
-    fn bytes(&mut self, n: usize) -> Vec<u8> {
-        (0..n).map(|_| self.byte()).collect()
-    }
-
-    fn not(&mut self, taboo: u8) -> u8 {
-        taboo.wrapping_add(1 + self.below(255) as u8)
-    }
-
     fn telling(&mut self) -> u8 {
         TELLING[self.below(20) as usize]
     }

@@ -2,7 +2,7 @@
 
 use edid_rs::*;
 use std::io::{self, Write};
-use std::panic::{catch_unwind, AssertUnwindSafe};
+use std::panic::{catch_unwind, set_hook, AssertUnwindSafe};
 
 /// Hands out one byte a call. edid-rs refills its buffer only when it is empty, so the bytes handed out are the bytes it has taken.
 struct OneByte {
@@ -23,8 +23,13 @@ impl io::Read for OneByte {
     }
 }
 
+/// From now on nothing is printed where edid-rs stops at a subtraction.
+pub fn quiet() {
+    set_hook(Box::new(|_| {}));
+}
+
 /// The record, or the number of the refusal; the bytes taken; the input.
-fn reading(bytes: Vec<u8>) -> (std::result::Result<EDID, u8>, usize, Vec<u8>) {
+pub fn reading(bytes: Vec<u8>) -> (std::result::Result<EDID, u8>, usize, Vec<u8>) {
     let mut source = OneByte { bytes, taken: 0 };
     let answer = catch_unwind(AssertUnwindSafe(|| parse(&mut source)));
     let number = match answer {
@@ -47,10 +52,28 @@ fn reading(bytes: Vec<u8>) -> (std::result::Result<EDID, u8>, usize, Vec<u8>) {
 pub fn list(out: &mut Vec<u8>, bytes: Vec<u8>) {
     match reading(bytes) {
         (Ok(edid), taken, bytes) => record(out, &edid, taken, &bytes),
-        (Err(number), taken, _) => writeln!(out, "refuse {} {}", number, taken),
+        (Err(number), taken, _) => refusal(out, number, taken),
     }
     .expect("a Vec takes every write");
     out.extend_from_slice(b"--\n");
+}
+
+/// For each burst what edid-rs says of all bytes so far: the first line of the listing, or `waiting` where it is out of data. Then the
+/// crate listing of all bytes.
+pub fn list_bursts(out: &mut Vec<u8>, bursts: Vec<Vec<u8>>) {
+    let mut joined = Vec::new();
+    for burst in bursts {
+        joined.extend(burst);
+        let (answer, taken, bytes) = reading(joined);
+        match answer {
+            Ok(_) => acceptance(out, taken),
+            Err(1) => writeln!(out, "waiting"),
+            Err(number) => refusal(out, number, taken),
+        }
+        .expect("a Vec takes every write");
+        joined = bytes;
+    }
+    list(out, joined);
 }
 
 /// What the three functions that C calls have to answer: the refusal's number, 0 where there is none, the bytes taken, and whether the
@@ -61,10 +84,18 @@ pub fn numbers(out: &mut Vec<u8>, bytes: Vec<u8>) {
     writeln!(out, "{} {} {}", answer.err().unwrap_or(0), taken, (sum == 0) as u8).expect("a Vec takes every write");
 }
 
+fn acceptance(out: &mut Vec<u8>, taken: usize) -> io::Result<()> {
+    writeln!(out, "accept {}", taken)
+}
+
+fn refusal(out: &mut Vec<u8>, number: u8, taken: usize) -> io::Result<()> {
+    writeln!(out, "refuse {} {}", number, taken)
+}
+
 fn record(out: &mut Vec<u8>, e: &EDID, taken: usize, bytes: &[u8]) -> io::Result<()> {
     let ManufacturerID(first, second, third) = e.product.manufacturer_id;
     let date = e.product.manufacture_date;
-    writeln!(out, "accept {}", taken)?;
+    acceptance(out, taken)?;
     write!(out, "product {} {} {}", first as u32, second as u32, third as u32)?;
     writeln!(out, " {} {} {} {}", e.product.product_code, e.product.serial_number, date.week, date.year)?;
     writeln!(out, "version {} {}", e.version.version, e.version.revision)?;

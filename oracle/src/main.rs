@@ -2,14 +2,19 @@
 //!     oracle <FRAMES           for each frame the crate listing, then a line `--`
 //!     oracle numbers <FRAMES   for each frame a line with the three answers that C gets (see listing.rs)
 //!     oracle gen >FRAMES       makes frames (see frames.rs)
+//! And scripts of bursts. A script is the number of its bursts in 16 bits, then each burst, written as a frame is but of any length.
+//!     oracle bursts <SCRIPTS       for each script a line for each burst and the crate listing (see listing.rs), then a line `--`
+//!     oracle gen-bursts >SCRIPTS   makes scripts (see bursts.rs)
 
+mod bursts;
 mod cases;
 #[cfg(test)]
 mod checked;
 mod frames;
+mod kinds;
 mod listing;
 
-use std::io::{self, BufWriter, Read, Write};
+use std::io::{self, BufRead, BufWriter, Read, StdinLock, Write};
 use std::process::exit;
 
 const LONGEST: usize = 4096;
@@ -17,54 +22,63 @@ const LONGEST: usize = 4096;
 fn main() {
     let args: Vec<String> = std::env::args().skip(1).collect();
     let done = match args.first().map(String::as_str) {
-        None => answer(listing::list),
-        Some("numbers") => answer(listing::numbers),
+        None => answer("frame", frame, listing::list),
+        Some("numbers") => answer("frame", frame, listing::numbers),
+        Some("bursts") => answer("script", script, listing::list_bursts),
         Some("gen") => frames::generate(&args[1..]),
-        Some(_) => stop("usage: oracle [numbers] <FRAMES, or oracle gen [--seed S] [--count N] [--all] >FRAMES"),
+        Some("gen-bursts") => bursts::generate(&args[1..]),
+        Some(_) => stop("usage: oracle [numbers] <FRAMES, oracle bursts <SCRIPTS, oracle gen|gen-bursts [--seed S] [--count N] [--all]"),
     };
     if let Err(e) = done {
         stop(&e.to_string());
     }
 }
 
-fn answer(write: fn(&mut Vec<u8>, Vec<u8>)) -> io::Result<()> {
-    std::panic::set_hook(Box::new(|_| {}));
+/// Answers one after the other, to the end of the input.
+fn answer<T>(what: &str, next: fn(&mut StdinLock, &str) -> io::Result<T>, write: fn(&mut Vec<u8>, T)) -> io::Result<()> {
+    listing::quiet();
     let mut input = io::stdin().lock();
     let mut out = BufWriter::with_capacity(1 << 16, io::stdout());
     let mut text = Vec::new();
     let mut number = 0;
-    while let Some(frame) = next_frame(&mut input, number)? {
+    while !input.fill_buf()?.is_empty() {
         text.clear();
-        write(&mut text, frame);
+        write(&mut text, next(&mut input, &format!("{} {}", what, number))?);
         out.write_all(&text)?;
         number += 1;
     }
     out.flush()
 }
 
-/// The next whole frame, none at the end of the input.
-fn next_frame(input: &mut impl Read, number: u64) -> io::Result<Option<Vec<u8>>> {
-    let head = up_to(input, 2)?;
-    if head.is_empty() {
-        return Ok(None);
-    }
-    if head.len() < 2 {
-        stop(&format!("frame {} is cut short", number));
-    }
-    let length = u16::from_le_bytes([head[0], head[1]]) as usize;
+fn frame(input: &mut StdinLock, name: &str) -> io::Result<Vec<u8>> {
+    let length = word(input, name)?;
     if length > LONGEST {
-        stop(&format!("frame {} is longer than {}", number, LONGEST));
+        stop(&format!("{} is longer than {}", name, LONGEST));
     }
-    let body = up_to(input, length)?;
-    if body.len() < length {
-        stop(&format!("frame {} is cut short", number));
-    }
-    Ok(Some(body))
+    run(input, length, name)
 }
 
-fn up_to(input: &mut impl Read, n: usize) -> io::Result<Vec<u8>> {
+fn script(input: &mut StdinLock, name: &str) -> io::Result<bursts::Script> {
+    let mut script = Vec::new();
+    for _ in 0..word(input, name)? {
+        let length = word(input, name)?;
+        script.push(run(input, length, name)?);
+    }
+    Ok(script)
+}
+
+/// 16 bits, low byte first.
+fn word(input: &mut StdinLock, name: &str) -> io::Result<usize> {
+    let bytes = run(input, 2, name)?;
+    Ok(u16::from_le_bytes([bytes[0], bytes[1]]) as usize)
+}
+
+fn run(input: &mut StdinLock, n: usize, name: &str) -> io::Result<Vec<u8>> {
     let mut bytes = Vec::with_capacity(n);
     input.take(n as u64).read_to_end(&mut bytes)?;
+    if bytes.len() < n {
+        stop(&format!("{} is cut short", name));
+    }
     Ok(bytes)
 }
 

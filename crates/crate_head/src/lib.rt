@@ -84,7 +84,7 @@ pub enum FrontRead {
 }
 
 // Two fields of four bytes; each is judged once it is taken.
-fn take_header(c: Cursor, s: &[u8]) -> HeaderRead
+pub fn take_header(c: Cursor, s: &[u8]) -> HeaderRead
     ensures { λ r. ⌜ ofHeader r ≡ run header (now (s .entry)) (c .at) ⌝ }
 {
     let mut c = c;

@@ -4,29 +4,26 @@ use mathlib.Core.Path.{_≡_, refl, ap}
 use mathlib.Core.List.{List}
 use native.Mathlib.Omega.{arith}
 use Rattle.steps.specs.Steps.{Outcome, got, refused}
-use Rattle.steps.specs.Leaves.{ended}
 use Rattle.steps.specs.Answers.{taken, numbered}
 use Rattle.crate_record.specs.declared.EDID.{EDID}
 use Rattle.crate_reading.specs.Reading.{reading, answer}
 use Rattle.crate_reading.specs.Sizes.{ends-reading}
-use Rattle.steps.specs.declared.End.{End}
-use Rattle.steps.specs.declared.End.the-variants as E
+use Rattle.crate_end.specs.Ends.{endOf}
+use Rattle.bursts.specs.declared.Report.{Report}
+use Rattle.bursts.specs.declared.Report.the-variants.{Waiting, At, Refused}
 
 -- the refusal's number; 0 where there is none
 abbrev pub numberOf : {A : Type 0} → Outcome A → ℕ
 numberOf (got a n) = 0
 numberOf (refused k n) = k
 
--- the outcome without its value
-abbrev pub endOf : {A : Type 0} → Outcome A → Outcome Unit
-endOf (got a n) = got tt n
-endOf (refused k n) = refused k n
+-- what is told after a burst, as a number; no refusal has 256
+abbrev pub numberTold : Report → ℕ
+numberTold Waiting = 256
+numberTold (At c) = 0
+numberTold (Refused f) = f .number
 
 -- ---- for the proofs of the code: the end alone says the number and the bytes taken
-
-pub ended-alone : {A : Type 0} (a : A) (e : End) → ended tt e ≡ endOf (ended a e)
-ended-alone a (E.At c) = refl
-ended-alone a (E.Refused f) = refl
 
 pub number-of-end : {A : Type 0} (o : Outcome A) → numberOf (endOf o) ≡ numberOf o
 number-of-end (got a n) = refl

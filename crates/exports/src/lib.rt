@@ -1,4 +1,5 @@
-// The three answers for the controller's C code: a `&[u8]` is a pointer and a length there.
+// The answers for the controller's C code: a `&[u8]` is a pointer and a length there, a `&[u8; 146]` a pointer.
+use bursts::Report;
 use steps::End;
 ghost use mathlib.Core.Path.{_≡_};
 ghost use lib.Dec.{eqb};
@@ -6,26 +7,35 @@ ghost use Rattle.steps.specs.Leaves.{ended};
 ghost use Rattle.steps.specs.Answers.{taken};
 ghost use Rattle.sums.specs.Sum.{byteSum};
 ghost use Rattle.crate_reading.specs.Reading.{answer};
-ghost use Rattle.exports.specs.Numbers.{endOf, numberOf};
+ghost use Rattle.bursts.specs.Bursts.{told, held, stage, standing, grow};
+ghost use Rattle.exports.specs.Numbers.{numberOf, numberTold};
 
-// The one caller of `read`, which drops the record: so `read` is compiled into it, and what only the record needs is left out.
-fn end_of(s: &[u8]) -> End
-    ensures { λ r. ⌜ ended tt r ≡ endOf (answer (now (s .entry))) ⌝ }
+fn number_of(end: End) -> u32
+    ensures { λ r. ⌜ r ≡ numberOf (ended {A = Unit} tt end) ⌝ }
 {
-    let r = crate_reading::read(s);
-    let end = r.end;
-    end
+    match end {
+        End::At(_) => 0,
+        End::Refused(f) => f.number as u32,
+    }
 }
+
+fn taken_by(end: End) -> usize
+    ensures { λ r. ⌜ r ≡ taken (ended {A = Unit} tt end) ⌝ }
+{
+    match end {
+        End::At(c) => c.at,
+        End::Refused(f) => f.at,
+    }
+}
+
+// ---- of a block
 
 // The crate reading's refusal number; 0 where the block is accepted.
 #[no_mangle]
 pub extern "C" fn edid_refusal_number(block: &[u8]) -> u32
     ensures { λ r. ⌜ r ≡ numberOf (answer (now (block .entry))) ⌝ }
 {
-    match end_of(block) {
-        End::At(_) => 0,
-        End::Refused(f) => f.number as u32,
-    }
+    number_of(crate_end::end_of(block))
 }
 
 // The bytes that the crate reading took, to the end of the record or to its refusal.
@@ -33,10 +43,7 @@ pub extern "C" fn edid_refusal_number(block: &[u8]) -> u32
 pub extern "C" fn edid_bytes_taken(block: &[u8]) -> usize
     ensures { λ r. ⌜ r ≡ taken (answer (now (block .entry))) ⌝ }
 {
-    match end_of(block) {
-        End::At(c) => c.at,
-        End::Refused(f) => f.at,
-    }
+    taken_by(crate_end::end_of(block))
 }
 
 // Whether the bytes add up to zero, modulo 256; those of the empty slice do.
@@ -45,4 +52,36 @@ pub extern "C" fn edid_sum_is_zero(block: &[u8]) -> bool
     ensures { λ r. ⌜ r ≡ eqb (byteSum (now (block .entry))) 0 ⌝ }
 {
     sums::sum_is_zero(block)
+}
+
+// ---- of bursts
+
+// Takes a burst; what is told after it: the number as above, or 256 while nothing is.
+#[no_mangle]
+pub extern "C" fn edid_burst(state: &mut [u8; 146], burst: &[u8]) -> u32
+    ensures { λ r. ⌜ (standing (now (state .exit)) ≡ grow (standing (now (state .entry))) (now (burst .entry)))
+        × (r ≡ numberTold (told (stage (now (state .exit))))) ⌝ }
+{
+    bursts::take(state, burst);
+    match bursts::reported(state) {
+        Report::Waiting => 256,
+        Report::At(_) => 0,
+        Report::Refused(f) => f.number as u32,
+    }
+}
+
+// The input ended: the number of all that came.
+#[no_mangle]
+pub extern "C" fn edid_burst_number(state: &[u8; 146]) -> u32
+    ensures { λ r. ⌜ r ≡ numberOf (answer (held (now (state .entry)))) ⌝ }
+{
+    number_of(bursts::end(state))
+}
+
+// And the bytes taken.
+#[no_mangle]
+pub extern "C" fn edid_burst_taken(state: &[u8; 146]) -> usize
+    ensures { λ r. ⌜ r ≡ taken (answer (held (now (state .entry)))) ⌝ }
+{
+    taken_by(bursts::end(state))
 }

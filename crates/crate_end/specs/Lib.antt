@@ -1,0 +1,4 @@
+-- The crate reading with no value kept.
+pub mod Ends
+pub mod Answers
+pub mod Onward

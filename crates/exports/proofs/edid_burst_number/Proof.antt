@@ -1,0 +1,15 @@
+-- `exports::edid_burst_number` meets its contract: the number, by the end alone. Assumes nothing.
+use mathlib.Core.Path.{ap, _∙_}
+use borrow.Author.Needs.{needs}
+use denote.Ref.{now}
+use Rattle.crate_reading.specs.Reading.{answer}
+use Rattle.bursts.specs.Bursts.{held}
+use Rattle.exports.specs.Numbers.{numberOf, number-of-end}
+use Rattle.exports.proofs.edid_burst_number.Statement.{statement}
+use Rattle.exports.proofs.edid_burst_number.Tie as tie
+
+returns : tie.Need-returns
+returns c = c .number-of .ensures ∙ ap numberOf (c .before .end .ensures) ∙ number-of-end (answer (held (now (c .before .before .args .state))))
+
+pub edid-burst-number-spec : {M : Type 1} → statement M
+edid-burst-number-spec = tie.close (tie.spec (search needs) (search needs) returns)
