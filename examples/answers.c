@@ -1,38 +1,82 @@
-/* What the three functions answer for each frame on standard input, a line each: refusal number, bytes taken, whether the sum is zero.
- *     answers <FRAMES      a frame is its length in 16 bits, low byte first, then as many bytes, at most 4,096
- * A block ends where its page ends, and the page behind it cannot be read: a read past the block ends the program.
- * Exit status: 0 each frame was answered, 1 not so. */
+/* What the exported functions answer, for each frame or script of bursts on standard input.
+ *     answers <FRAMES          a line each: refusal number, bytes taken, whether the sum is zero
+ *     answers bursts <SCRIPTS  a line for each burst, what is told after it; then refusal number and bytes taken at the end
+ * A frame is its length in 16 bits, low byte first, then as many bytes, at most 4,096; a script the number of its bursts in 16 bits, then each as
+ * a frame is, but of any length. A block, or a burst, ends where its page ends, and so does a state; the page behind it can be neither read nor
+ * written: a step past it ends the program.
+ * Exit status: 0 all was answered, 1 not so. */
 #define _DEFAULT_SOURCE
 #include <stdio.h>
+#include <stdlib.h>
+#include <string.h>
 #include <sys/mman.h>
 #include <unistd.h>
 #include "edid.h"
 
-enum { LONGEST = 4096 };
+enum { LONGEST = 4096, LONGEST_BURST = 65535 };
 
-/* Where a block has to end: LONGEST bytes at least before it, a page that cannot be read behind it. */
-static uint8_t *end_of_page(void)
+/* Where a block, a burst or a state has to end: as many bytes at least before it, a page that cannot be touched behind it. */
+static uint8_t *end_of_page(size_t bytes)
 {
-    size_t page = (size_t)sysconf(_SC_PAGESIZE), room = (LONGEST + page - 1) / page * page;
+    size_t page = (size_t)sysconf(_SC_PAGESIZE), room = (bytes + page - 1) / page * page;
     uint8_t *start = mmap(NULL, room + page, PROT_READ | PROT_WRITE, MAP_PRIVATE | MAP_ANONYMOUS, -1, 0);
-    return start == MAP_FAILED || mprotect(start + room, page, PROT_NONE) ? NULL : start + room;
+    if (start == MAP_FAILED || mprotect(start + room, page, PROT_NONE)) {
+        perror("answers");
+        exit(1);
+    }
+    return start + room;
 }
 
-int main(void)
+static bool read_word(size_t *word)
 {
-    uint8_t *end = end_of_page(), head[2];
-    size_t had = 0;
-    while (end && (had = fread(head, 1, 2, stdin)) == 2) {
-        size_t length = head[0] | (size_t)head[1] << 8;
-        uint8_t *block = end - length;
-        if (length > LONGEST || fread(block, 1, length, stdin) != length)
-            break;
-        uint32_t number = edid_refusal_number(block, length);
-        printf("%u %zu %d\n", (unsigned)number, edid_bytes_taken(block, length), edid_sum_is_zero(block, length));
+    uint8_t bytes[2];
+    bool there = fread(bytes, 1, 2, stdin) == 2;
+    *word = there ? bytes[0] | (size_t)bytes[1] << 8 : 0;
+    return there;
+}
+
+/* Whether as many bytes came, of a length that is allowed. */
+static bool read_to(uint8_t *end, size_t length, size_t longest)
+{
+    return length <= longest && fread(end - length, 1, length, stdin) == length;
+}
+
+static bool answer_frame(size_t length)
+{
+    static uint8_t *end;
+    end = end ? end : end_of_page(LONGEST);
+    if (!read_to(end, length, LONGEST))
+        return false;
+    uint32_t number = edid_refusal_number(end - length, length);
+    printf("%u %zu %d\n", (unsigned)number, edid_bytes_taken(end - length, length), edid_sum_is_zero(end - length, length));
+    return true;
+}
+
+static bool answer_script(size_t bursts)
+{
+    static uint8_t *end, *state;
+    end = end ? end : end_of_page(LONGEST_BURST);
+    state = state ? state : end_of_page(EDID_BURSTS) - EDID_BURSTS;
+    memset(state, 0, EDID_BURSTS);
+    for (size_t length; bursts > 0; bursts--) {
+        if (!read_word(&length) || !read_to(end, length, LONGEST_BURST))
+            return false;
+        printf("%u\n", (unsigned)edid_burst(state, end - length, length));
     }
-    if (!end || had != 0 || ferror(stdin) || fflush(stdout)) {
-        fputs("answers: a frame is cut short or too long, or cannot be read\n", stderr);
-        return 1;
+    printf("%u %zu\n", (unsigned)edid_burst_number(state), edid_burst_taken(state));
+    return true;
+}
+
+int main(int argc, char **argv)
+{
+    bool scripts = argc == 2 && !strcmp(argv[1], "bursts");
+    int next;
+    while ((next = getchar()) != EOF && ungetc(next, stdin) != EOF) {
+        size_t word;
+        if (!read_word(&word) || !(scripts ? answer_script : answer_frame)(word)) {
+            fputs("answers: a frame or a script is cut short, or a frame too long\n", stderr);
+            return 1;
+        }
     }
-    return 0;
+    return ferror(stdin) || fflush(stdout) ? 1 : 0;
 }

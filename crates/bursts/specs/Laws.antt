@@ -7,7 +7,7 @@ use native.Mathlib.Nat.{zero-min, min-zero, suc-min-suc}
 use native.Mathlib.Omega.{arith}
 use lib.Dec.{eqb, ltb}
 use lib.ListN.{length, getD, take, drop, set, length-take, length-set}
-use lib.Seq.{take-take, take-set-le, getD-set-same, getD-set-other, getD-drop, take-append-add, paste, take-paste, drop-paste, length-paste}
+use lib.Seq.{take-length, take-take, take-set-le, getD-set-same, getD-set-other, getD-drop, take-append-add, paste, take-paste, drop-paste, length-paste}
 use borrow.Author.Tests.{eq-eqb, ne-eqb, lt-ltb, le-ltb}
 use Rattle.steps.specs.Steps.{got, refused}
 use Rattle.steps.specs.Laws.{picked, picked-not}
@@ -23,9 +23,7 @@ take-of-take (suc m) (suc n) [] = rw (suc-min-suc m n)
 take-of-take (suc m) (suc n) (x ∷ l) = rw (suc-min-suc m n) (ap (λ (r : List ℕ). x ∷ r) (take-of-take m n l))
 
 take-min : (l : List ℕ) (n : ℕ) → take (min n (length l)) l ≡ take n l
-take-min l zero = rw (zero-min (length l))
-take-min [] (suc n) = rw (min-zero (suc n))
-take-min (x ∷ xs) (suc n) = rw (suc-min-suc n (length xs)) (ap (λ (r : List ℕ). x ∷ r) (take-min xs n))
+take-min l n = sym (take-of-take n (length l) l) ∙ ap (take n) (take-length l)
 
 -- two lists that are one from n on
 behind : (l m : List ℕ) (n j : ℕ) → n ≤ j → drop n l ≡ drop n m → getD l j 0 ≡ getD m j 0

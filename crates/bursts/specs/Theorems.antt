@@ -1,117 +1,20 @@
 -- What holds of every list of bursts. `flatten` joins them; `after bs` is what a reader stands for that took the bursts bs.
-use Prim.Native.Nat.{ℕ, zero, suc, _+_, _-_, _≤_, _<_}
-use mathlib.Core.Bool.{Bool, true, false, cond}
+use Prim.Native.Nat.{ℕ, _+_, _-_, _≤_, _<_}
+use mathlib.Core.Bool.{Bool, true, false}
 use mathlib.Core.Path.{_≡_, refl, sym, _∙_, ap, subst}
-use mathlib.Core.List.{List, [], _∷_, _++_, foldl, foldl-append, flatten, append-nil, append-assoc}
+use mathlib.Core.List.{List, [], _∷_, _++_, foldl-append, flatten, append-assoc}
 use native.Mathlib.Omega.{arith}
-use borrow.Author.Tests.{eqb-true, eqb-false, leb-true, leb-false}
-use lib.Dec.{eqb, leb}
-use lib.ListN.{length, take, replicate, length-append}
-use Rattle.steps.specs.Steps.{Outcome, got, refused, run}
+use borrow.Author.Tests.{leb-true, leb-false}
+use lib.Dec.{leb}
+use lib.ListN.{length, replicate, length-append}
+use Rattle.steps.specs.Steps.{refused}
 use Rattle.steps.specs.Answers.{taken, Enough, within}
-use Rattle.steps.specs.Leaves.{byte, word, long}
-use Rattle.crate_head.specs.Head.{header}
-use Rattle.crate_record.specs.declared.EDID.{EDID}
 use Rattle.crate_reading.specs.Reading.{reading, answer}
-use Rattle.crate_end.specs.Ends.{endOf, ends, piece, piecesFrom, Went, went, went-end, ends-so}
-use Rattle.crate_end.specs.Onward.{resumed}
 use Rattle.crate_depth.specs.Whole.{first-142, begun-reading}
 use Rattle.crate_depth.specs.Prefix.{stays, not-before, at-once}
-use Rattle.bursts.specs.declared.Report.{Report}
-use Rattle.bursts.specs.declared.Report.the-variants.{Waiting, At, Refused}
-use Rattle.bursts.specs.Bursts.{Stage, amid, known, Standing, reportOf, told, held, stageOf, stage, standing, endOr, settled, further, fresh, grow, after}
-
--- ---- what is told of an end: nothing exactly where it is out of data
-
-settled-enough : (o : Outcome Unit) (on : Stage) → Enough o → endOr o on ≡ known o
-settled-enough (got a n) on e = refl
-settled-enough (refused k n) on e = go (eqb k 1) refl
-  where
-    go : (t : Bool) → eqb k 1 ≡ t → cond t on (known (refused k n)) ≡ known (refused k n)
-    go true q = absurd (e n (ap (λ (j : ℕ). refused j n) (eqb-true k 1 q)))
-    go false q = refl
-
--- the end alone says as much
-enough-end : {A : Type 0} (o : Outcome A) → Enough o → Enough (endOf o)
-enough-end (got a n) e = λ m q. let z : _≡_ {A = ℕ} 0 1 = cc in absurd (omega arith)
-enough-end (refused k n) e = λ m q. let one : k ≡ 1 = cc in e n (ap (λ (j : ℕ). refused j n) one)
-
-report-end : {A : Type 0} (o : Outcome A) → reportOf (endOf o) ≡ reportOf o
-report-end (got a n) = refl
-report-end (refused k n) = refl
-
-told-nothing : (w : Went) (n : ℕ) → w .end ≡ refused 1 n → told (settled w) ≡ Waiting
-told-nothing w n e = ap (λ (o : Outcome Unit). told (endOr o (amid (w .piece) (w .at)))) e
-
-told-end : {A : Type 0} (w : Went) (o : Outcome A) → w .end ≡ endOf o → Enough o → told (settled w) ≡ reportOf o
-told-end w o q e =
-    ap (λ (x : Outcome Unit). told (endOr x (amid (w .piece) (w .at)))) q
-    ∙ ap told (settled-enough (endOf o) (amid (w .piece) (w .at)) (enough-end o e)) ∙ report-end o
-
--- ---- after the bursts a reader stands for their bytes, however they came
-
--- going on over more bytes comes to where the reading of all of them comes
-module _ (s t : List ℕ) where
-  -- the end was known
-  known-still : (o : Outcome Unit) → went 5 0 s 0 .end ≡ o → Enough o → known o ≡ settled (went 5 0 (s ++ t) 0)
-  known-still o e h =
-      let enough : Enough (run ends s 0) = λ n q. h n (sym e ∙ went-end 5 0 s 0 ∙ q) in
-      let all = went 5 0 (s ++ t) 0 in
-      sym (settled-enough o (amid (all .piece) (all .at)) h)
-      ∙ ap (λ (x : Outcome Unit). endOr x (amid (all .piece) (all .at)))
-      (sym e ∙ went-end 5 0 s 0 ∙ sym (stays ends s t enough) ∙ sym (went-end 5 0 (s ++ t) 0))
-
-  -- or not
-  goes-on-by : (o : Outcome Unit) → went 5 0 s 0 .end ≡ o
-      → further (endOr o (amid (went 5 0 s 0 .piece) (went 5 0 s 0 .at))) (s ++ t) ≡ settled (went 5 0 (s ++ t) 0)
-  goes-on-by (got a n) e = known-still (got a n) e (λ m q. let z : _≡_ {A = ℕ} 0 1 = cc in absurd (omega arith))
-  goes-on-by (refused k n) e = go (eqb k 1) refl
-    where
-      go : (u : Bool) → eqb k 1 ≡ u
-          → further (cond u (amid (went 5 0 s 0 .piece) (went 5 0 s 0 .at)) (known (refused k n))) (s ++ t) ≡ settled (went 5 0 (s ++ t) 0)
-      go true q = ap settled (resumed 5 0 s t 0 refl)
-      go false q = known-still (refused k n) e (λ m r. let one : k ≡ 1 = cc in absurd (eqb-false k 1 q one))
-
-  goes-on : further (settled (went 5 0 s 0)) (s ++ t) ≡ settled (went 5 0 (s ++ t) 0)
-  goes-on = goes-on-by (went 5 0 s 0 .end) refl
-
-pub soFar : List ℕ → Standing
-soFar s = record { bytes = take 142 s; stage = settled (went 5 0 (take 142 s) 0) }
-
-take-first : (n : ℕ) (s t : List ℕ) → take n (take n s ++ t) ≡ take n (s ++ t)
-take-first zero s t = refl
-take-first (suc n) [] t = refl
-take-first (suc n) (x ∷ s) t = ap (λ (l : List ℕ). x ∷ l) (take-first n s t)
-
-take-more : (n : ℕ) (s t : List ℕ) → take n (s ++ t) ≡ take n s ++ take (n - length s) t
-take-more zero s t = let e : 0 ≡ 0 - length s = omega arith in ap (λ (k : ℕ). take k t) e
-take-more (suc n) [] t = let e : suc n ≡ suc n - 0 = omega arith in ap (λ (k : ℕ). take k t) e
-take-more (suc n) (x ∷ s) t =
-    let e : n - length s ≡ suc n - suc (length s) = omega arith in
-    ap (λ (l : List ℕ). x ∷ l) (take-more n s t ∙ ap (λ (k : ℕ). take n s ++ take k t) e)
-
-grown : (s b : List ℕ) → grow (soFar s) b ≡ soFar (s ++ b)
-unfolding soFar
-grown s b =
-    let u = settled (went 5 0 (take 142 s) 0) in
-    let bytes : take 142 (take 142 s ++ b) ≡ take 142 (s ++ b) = take-first 142 s b in
-    let parts : take 142 (s ++ b) ≡ take 142 s ++ take (142 - length s) b = take-more 142 s b in
-    let stage : further u (take 142 (take 142 s ++ b)) ≡ settled (went 5 0 (take 142 (s ++ b)) 0) =
-    ap (further u) (bytes ∙ parts) ∙ goes-on (take 142 s) (take (142 - length s) b) ∙ ap (λ (l : List ℕ). settled (went 5 0 l 0)) (sym parts) in
-    λ i. record { bytes = bytes i; stage = stage i }
-
-grown-all : (s : List ℕ) (bs : List (List ℕ)) → foldl grow (soFar s) bs ≡ soFar (s ++ flatten bs)
-unfolding flatten
-grown-all s [] = ap soFar (sym (append-nil s))
-grown-all s (b ∷ bs) = ap (λ a. foldl grow a bs) (grown s b) ∙ grown-all (s ++ b) bs ∙ ap soFar (append-assoc s b (flatten bs))
-
--- of no bytes at all: they are out of data
-nothing-yet : fresh ≡ soFar []
-unfolding soFar went piece header long word byte
-nothing-yet = refl
-
-pub stands-for : (bs : List (List ℕ)) → after bs ≡ soFar (flatten bs)
-stands-for bs = ap (λ a. foldl grow a bs) nothing-yet ∙ grown-all [] bs
+use Rattle.bursts.specs.declared.Report.the-variants.{Waiting}
+use Rattle.bursts.specs.Bursts.{reportOf, told, held, stageOf, stage, standing, fresh, grow, after}
+use Rattle.bursts.specs.Grown.{by-enough, soFar, stands-for, says-nothing, says}
 
 -- ---- the calls
 
@@ -150,21 +53,6 @@ empty-burst bs cs = any-cut (bs ++ ([] ∷ cs)) (bs ++ cs) (flatten-append bs ([
 
 -- ---- the report: bs are the bursts so far, and cs those to come
 
--- how the reading of what came ends is how that of their bytes does
-so-far-end : (s : List ℕ) → went 5 0 (take 142 s) 0 .end ≡ endOf (answer s)
-so-far-end s = ends-so (take 142 s) ∙ ap endOf (first-142 s)
-
--- nothing is told where the bytes are out of data, and else their answer is
-says-nothing : (bs : List (List ℕ)) (n : ℕ) → answer (flatten bs) ≡ refused 1 n → told (after bs .stage) ≡ Waiting
-unfolding soFar
-says-nothing bs n e =
-    ap (λ a. told (a .stage)) (stands-for bs) ∙ told-nothing (went 5 0 (take 142 (flatten bs)) 0) n (so-far-end (flatten bs) ∙ ap endOf e)
-
-says : (bs : List (List ℕ)) → Enough (answer (flatten bs)) → told (after bs .stage) ≡ reportOf (answer (flatten bs))
-unfolding soFar
-says bs e =
-    ap (λ a. told (a .stage)) (stands-for bs) ∙ told-end (went 5 0 (take 142 (flatten bs)) 0) (answer (flatten bs)) (so-far-end (flatten bs)) e
-
 module _ (bs cs : List (List ℕ)) where
   -- with the whole input as the two joined
   whole : (P : List ℕ → Type 0) → P (flatten (bs ++ cs)) → P (flatten bs ++ flatten cs)
@@ -187,18 +75,9 @@ module _ (bs cs : List (List ℕ)) where
 
   -- out of data is told at the end only: where the whole input is, no burst tells anything
   pub no-report : (n : ℕ) → answer (flatten (bs ++ cs)) ≡ refused 1 n → told (after bs .stage) ≡ Waiting
-  no-report n o = by (answer (flatten bs)) refl
-    where
-      no : Enough (answer (flatten bs)) → ⊥
-      no e = e n (sym (stays reading (flatten bs) (flatten cs) e) ∙ ap answer (sym (flatten-append bs cs)) ∙ o)
-
-      by : (r : Outcome EDID) → answer (flatten bs) ≡ r → told (after bs .stage) ≡ Waiting
-      by (got a m) q = absurd (no (λ j e. let z : _≡_ {A = ℕ} 0 1 = cc in absurd (omega arith)))
-      by (refused k m) q = go (eqb k 1) refl
-        where
-          go : (u : Bool) → eqb k 1 ≡ u → told (after bs .stage) ≡ Waiting
-          go true e = says-nothing bs m (q ∙ ap (λ (j : ℕ). refused j m) (eqb-true k 1 e))
-          go false e = absurd (no (λ j r. let one : k ≡ 1 = cc in absurd (eqb-false k 1 e one)))
+  no-report n o =
+      by-enough (answer (flatten bs)) (says-nothing bs)
+      (λ e. absurd (e n (sym (stays reading (flatten bs) (flatten cs) e) ∙ ap answer (sym (flatten-append bs cs)) ∙ o)))
 
 -- b brings the last byte that the answer takes: bs came before it, and cs comes after it
 pub record Brings (bs : List (List ℕ)) (b : List ℕ) (cs : List (List ℕ)) : Type 0 where

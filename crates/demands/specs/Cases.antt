@@ -59,7 +59,7 @@ white-slot gap = (0 ∷ 0 ∷ 0 ∷ 0xfb ∷ 0 ∷ 1 ∷ 0 ∷ 0 ∷ 0 ∷ 0 ∷
 pub shortest : List ℕ
 shortest = with (0 ∷ 0 ∷ 0 ∷ 0x10 ∷ 0 ∷ 0 ∷ 0 ∷ 0 ∷ 0x10 ∷ 0 ∷ 0 ∷ 0 ∷ 0 ∷ 0x10 ∷ 0 ∷ []) 72 126
 
-pub longest : List ℕ
+unfoldable pub longest : List ℕ
 longest = let slot = white-slot (0 ∷ 0 ∷ 0 ∷ 0 ∷ 0 ∷ []) in with (slot ++ slot ++ slot) 72 126
 
 -- the six points of the longest

@@ -6,3 +6,4 @@ pub mod Demands
 pub mod Spans
 pub mod Standard
 pub mod Sums
+pub mod Bursts
