@@ -23,7 +23,7 @@ static uint64_t twice(const uint8_t *block, size_t length) { return written_twic
 /* A whole block in bursts of one size, from a fresh state on. */
 static uint64_t in_bursts(const uint8_t *block, size_t length, size_t size)
 {
-    uint8_t state[EDID_BURSTS] = {0};
+    uint8_t state[EDID_STATE] = {0};
     uint64_t last = EDID_WAITING;
     for (size_t at = 0; at < length; at += size)
         last = edid_burst(state, block + at, length - at < size ? length - at : size);

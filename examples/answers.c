@@ -1,6 +1,6 @@
 /* What the exported functions answer, for each frame or script of bursts on standard input.
  *     answers <FRAMES          a line each: refusal number, bytes taken, whether the sum is zero
- *     answers bursts <SCRIPTS  a line for each burst, what is told after it; then refusal number and bytes taken at the end
+ *     answers bursts <SCRIPTS  a line for each burst, what is told after it; then refusal number and bytes taken at the end, and a line `--`
  * A frame is its length in 16 bits, low byte first, then as many bytes, at most 4,096; a script the number of its bursts in 16 bits, then each as
  * a frame is, but of any length. A block, or a burst, ends where its page ends, and so does a state; the page behind it can be neither read nor
  * written: a step past it ends the program.
@@ -56,14 +56,14 @@ static bool answer_script(size_t bursts)
 {
     static uint8_t *end, *state;
     end = end ? end : end_of_page(LONGEST_BURST);
-    state = state ? state : end_of_page(EDID_BURSTS) - EDID_BURSTS;
-    memset(state, 0, EDID_BURSTS);
+    state = state ? state : end_of_page(EDID_STATE) - EDID_STATE;
+    memset(state, 0, EDID_STATE);
     for (size_t length; bursts > 0; bursts--) {
         if (!read_word(&length) || !read_to(end, length, LONGEST_BURST))
             return false;
         printf("%u\n", (unsigned)edid_burst(state, end - length, length));
     }
-    printf("%u %zu\n", (unsigned)edid_burst_number(state), edid_burst_taken(state));
+    printf("%u %zu\n--\n", (unsigned)edid_burst_number(state), edid_burst_taken(state));
     return true;
 }
 

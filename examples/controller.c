@@ -50,16 +50,16 @@ int main(int argc, char **argv)
         perror(argv[1]);
         return 2;
     }
-    uint8_t state[EDID_BURSTS] = {0}, burst[BURST]; /* the state begins with the bytes that came */
+    uint8_t state[EDID_STATE] = {0}, burst[BURST]; /* the state begins with the bytes that came */
     size_t length = 0, wanted = BLOCK, came;
     uint32_t told;
-    do { /* once the block is accepted, only the rest of it is awaited, for its sum */
+    do { /* once the reading accepts, only the rest of the block is awaited, for its sum */
         came = fread(burst, 1, wanted - length < BURST ? wanted - length : BURST, source);
         length += came;
         told = edid_burst(state, burst, came);
         if (length == BLOCK && told == EDID_WAITING && state[EXTENSIONS] > 0)
             wanted = 2 * BLOCK;
-    } while (came > 0 && (told == EDID_WAITING || told == 0));
+    } while (came > 0 && (told == EDID_WAITING || (told == 0 && length < BLOCK)));
     if (ferror(source)) {
         perror("controller");
         return 2;

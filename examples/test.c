@@ -9,11 +9,11 @@ enum { BLOCK = 128, LONGER = 136 };
 
 static unsigned asked, failed;
 
-/* In bursts of one size, an empty one before each: nothing is told before the last byte that is taken, and then the number, to the end. The bytes
- * behind the state keep their value. */
+/* In bursts of one size, an empty one before each: nothing is told before the last byte that is taken, and then the number, to the end. The byte
+ * behind the state keeps its value. */
 static bool in_bursts(const uint8_t *block, size_t length, size_t size, uint32_t number, size_t taken)
 {
-    uint8_t state[EDID_BURSTS + 1] = {[EDID_BURSTS] = 0xa5};
+    uint8_t state[EDID_STATE + 1] = {[EDID_STATE] = 0xa5};
     bool right = true;
     for (size_t at = 0; at < length; at += size) {
         size_t came = length - at < size ? length - at : size;
@@ -21,7 +21,7 @@ static bool in_bursts(const uint8_t *block, size_t length, size_t size, uint32_t
         uint32_t after = number == 1 || at + came < taken ? EDID_WAITING : number;
         right &= edid_burst(state, NULL, 0) == before && edid_burst(state, block + at, came) == after;
     }
-    return right && state[EDID_BURSTS] == 0xa5 && edid_burst_number(state) == number && edid_burst_taken(state) == taken;
+    return right && state[EDID_STATE] == 0xa5 && edid_burst_number(state) == number && edid_burst_taken(state) == taken;
 }
 
 static void expect(const char *what, size_t at, const uint8_t *block, size_t length, uint32_t number, size_t taken)
@@ -33,7 +33,7 @@ static void expect(const char *what, size_t at, const uint8_t *block, size_t len
     size_t its_taken = edid_bytes_taken(block, length);
     bool its_zero = edid_sum_is_zero(block, length);
     asked++;
-    for (size_t size = 1; size <= length; size++)
+    for (size_t size = 1; size <= length + 1; size++)
         if (!in_bursts(block, length, size, number, taken)) {
             failed++;
             printf("FAILED: %s %zu, in bursts of %zu\n", what, at, size);

@@ -84,6 +84,22 @@ pub fn numbers(out: &mut Vec<u8>, bytes: Vec<u8>) {
     writeln!(out, "{} {} {}", answer.err().unwrap_or(0), taken, (sum == 0) as u8).expect("a Vec takes every write");
 }
 
+/// What C has to get of the same: after each burst the number, 257 while nothing is told; at the end the number and the bytes taken; then a
+/// line `--`.
+pub fn burst_numbers(out: &mut Vec<u8>, bursts: Vec<Vec<u8>>) {
+    let mut joined = Vec::new();
+    let mut last = (1, 0);
+    for burst in bursts {
+        joined.extend(burst);
+        let (answer, taken, bytes) = reading(joined);
+        last = (answer.err().unwrap_or(0), taken);
+        let told = if last.0 == 1 { 257 } else { u32::from(last.0) };
+        writeln!(out, "{}", told).expect("a Vec takes every write");
+        joined = bytes;
+    }
+    writeln!(out, "{} {}\n--", last.0, last.1).expect("a Vec takes every write");
+}
+
 fn acceptance(out: &mut Vec<u8>, taken: usize) -> io::Result<()> {
     writeln!(out, "accept {}", taken)
 }

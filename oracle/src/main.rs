@@ -3,8 +3,9 @@
 //!     oracle numbers <FRAMES   for each frame a line with the three answers that C gets (see listing.rs)
 //!     oracle gen >FRAMES       makes frames (see frames.rs)
 //! And scripts of bursts. A script is the number of its bursts in 16 bits, then each burst, written as a frame is but of any length.
-//!     oracle bursts <SCRIPTS       for each script a line for each burst and the crate listing (see listing.rs), then a line `--`
-//!     oracle gen-bursts >SCRIPTS   makes scripts (see bursts.rs)
+//!     oracle bursts <SCRIPTS          for each script a line for each burst and the crate listing (see listing.rs), then a line `--`
+//!     oracle burst-numbers <SCRIPTS   the numbers that C gets in their place
+//!     oracle gen-bursts >SCRIPTS      makes scripts (see bursts.rs)
 
 mod bursts;
 mod cases;
@@ -25,9 +26,12 @@ fn main() {
         None => answer("frame", frame, listing::list),
         Some("numbers") => answer("frame", frame, listing::numbers),
         Some("bursts") => answer("script", script, listing::list_bursts),
+        Some("burst-numbers") => answer("script", script, listing::burst_numbers),
         Some("gen") => frames::generate(&args[1..]),
         Some("gen-bursts") => bursts::generate(&args[1..]),
-        Some(_) => stop("usage: oracle [numbers] <FRAMES, oracle bursts <SCRIPTS, oracle gen|gen-bursts [--seed S] [--count N] [--all]"),
+        Some(_) => stop(
+            "usage: oracle [numbers] <FRAMES, oracle bursts|burst-numbers <SCRIPTS, oracle gen|gen-bursts [--seed S] [--count N] [--all]",
+        ),
     };
     if let Err(e) = done {
         stop(&e.to_string());

@@ -66,8 +66,7 @@ fn answer_burst(
     if read_start(space, n) != n {
         return complain(number);
     }
-    bursts::take(state, start(space, n));
-    let end = report_line(out, bursts::reported(state));
+    let end = report_line(out, bursts::take(state, start(space, n)));
     io::write_all(1, frames::start(out, end))
 }
 

@@ -13,7 +13,8 @@ use Rattle.steps.specs.Answers.{Enough}
 use Rattle.steps.specs.Leaves.{byte, word, long}
 use Rattle.crate_head.specs.Head.{header}
 use Rattle.crate_reading.specs.Reading.{answer}
-use Rattle.crate_end.specs.Ends.{endOf, ends, piece, Went, went, went-end, ends-so}
+use Rattle.crate_end.specs.Ends.{endOf, ends, piece, Went, went}
+use Rattle.crate_end.specs.Whole.{went-end, ends-so}
 use Rattle.crate_end.specs.Onward.{resumed}
 use Rattle.crate_depth.specs.Whole.{first-142}
 use Rattle.crate_depth.specs.Prefix.{stays}

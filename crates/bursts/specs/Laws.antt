@@ -127,16 +127,7 @@ unfolding stage
 begins s h = is-amid (getD s 143 0) (getD s 144 0) (getD s 145 0) h
 
 module _ (a : Standing) (burst s : List ℕ) (h : held s ≡ take 142 (a .bytes ++ burst)) (r : stage s ≡ a .stage) where
-  -- the end was known
-  pub still : 6 ≤ getD s 143 0 → standing s ≡ grow a burst
-  unfolding stage
-  still n =
-      let all = take 142 (a .bytes ++ burst) in
-      let is = is-known (getD s 143 0) (getD s 144 0) (getD s 145 0) n in
-      let same : stage s ≡ further (a .stage) all = is ∙ ap (λ (u : Stage). further u all) (sym is ∙ r) in
-      λ i. record { bytes = h i; stage = same i }
-
-  -- it was not, and t is the state with how far all that came is read
+  -- the end was not known, and t is the state with how far all that came is read
   pub anew : (t : List ℕ) (w : Went) → getD s 143 0 < 6 → held t ≡ held s → stage t ≡ settled w
       → w ≡ went (5 - getD s 143 0) (getD s 143 0) (held s) (getD s 144 0) → standing t ≡ grow a burst
   anew t w z e f g =
@@ -145,3 +136,12 @@ module _ (a : Standing) (burst s : List ℕ) (h : held s ≡ take 142 (a .bytes 
       f ∙ ap settled (g ∙ ap (λ (l : List ℕ). went (5 - getD s 143 0) (getD s 143 0) l (getD s 144 0)) h)
       ∙ ap (λ (u : Stage). further u all) (sym (begins s z) ∙ r) in
       λ i. record { bytes = (e ∙ h) i; stage = now i }
+
+  -- it was known
+  pub still : 6 ≤ getD s 143 0 → standing s ≡ grow a burst
+  unfolding stage
+  still n =
+      let all = take 142 (a .bytes ++ burst) in
+      let is = is-known (getD s 143 0) (getD s 144 0) (getD s 145 0) n in
+      let same : stage s ≡ further (a .stage) all = is ∙ ap (λ (u : Stage). further u all) (sym is ∙ r) in
+      λ i. record { bytes = h i; stage = same i }

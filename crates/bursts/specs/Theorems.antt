@@ -7,18 +7,20 @@ use native.Mathlib.Omega.{arith}
 use borrow.Author.Tests.{leb-true, leb-false}
 use lib.Dec.{leb}
 use lib.ListN.{length, replicate, length-append}
-use Rattle.steps.specs.Steps.{refused}
+use Rattle.steps.specs.Steps.{Outcome, got, refused}
 use Rattle.steps.specs.Answers.{taken, Enough, within}
+use Rattle.steps.specs.declared.Refusal.{Refusal}
+use Rattle.crate_record.specs.declared.EDID.{EDID}
 use Rattle.crate_reading.specs.Reading.{reading, answer}
 use Rattle.crate_depth.specs.Whole.{first-142, begun-reading}
 use Rattle.crate_depth.specs.Prefix.{stays, not-before, at-once}
-use Rattle.bursts.specs.declared.Report.the-variants.{Waiting}
+use Rattle.bursts.specs.declared.Report.the-variants.{Waiting, Refused}
 use Rattle.bursts.specs.Bursts.{reportOf, told, held, stageOf, stage, standing, fresh, grow, after}
 use Rattle.bursts.specs.Grown.{by-enough, soFar, stands-for, says-nothing, says}
 
 -- ---- the calls
 
--- a state of 146 zeros that was lent to `take` with these bursts, one after the other
+-- a state that stands for what 146 zeros do that were lent to `take` with these bursts, one after the other
 abbrev pub Made : List ℕ → List (List ℕ) → Type 0
 Made state bs = standing state ≡ after bs
 
@@ -79,28 +81,49 @@ module _ (bs cs : List (List ℕ)) where
       by-enough (answer (flatten bs)) (says-nothing bs)
       (λ e. absurd (e n (sym (stays reading (flatten bs) (flatten cs) e) ∙ ap answer (sym (flatten-append bs cs)) ∙ o)))
 
--- b brings the last byte that the answer takes: bs came before it, and cs comes after it
-pub record Brings (bs : List (List ℕ)) (b : List ℕ) (cs : List (List ℕ)) : Type 0 where
-  pub answers : Enough (answer (flatten (bs ++ (b ∷ cs))))
-  pub missing : length (flatten bs) < taken (answer (flatten (bs ++ (b ∷ cs))))
-  pub there : taken (answer (flatten (bs ++ (b ∷ cs)))) ≤ length (flatten (bs ++ (b ∷ [])))
+-- no burst tells 1
+pub never-1 : (bs : List (List ℕ)) (n : ℕ) → told (after bs .stage) ≡ Refused (record { number = 1; at = n }) → ⊥
+never-1 bs n q =
+    by-enough (answer (flatten bs)) (λ m o. let z : _≡_ {A = ℕ} 0 1 = cc (says-nothing bs m o) in absurd (omega arith))
+    (λ e. by (answer (flatten bs)) e (sym (says bs e) ∙ q))
+  where
+    by : (o : Outcome EDID) → Enough o → reportOf o ≡ Refused (record { number = 1; at = n }) → ⊥
+    by (got a m) e r = let z : _≡_ {A = ℕ} 0 1 = cc in absurd (omega arith)
+    by (refused k m) e r =
+        let same : _≡_ {A = Refusal} (record { number = k; at = m }) (record { number = 1; at = n }) = cc in
+        e m (ap (λ (f : Refusal). refused (f .number) m) same)
 
--- then no burst before it tells anything; it tells the answer of all, and so does every later one; and that is the answer at the end
+-- once something is told, no later burst alters it, nor the answer at the end
+pub final : (bs cs : List (List ℕ)) → (told (after bs .stage) ≡ Waiting → ⊥)
+    → (told (after (bs ++ cs) .stage) ≡ told (after bs .stage)) × (answer (flatten (bs ++ cs)) ≡ answer (flatten bs))
+final bs cs h =
+    by-enough (answer (flatten bs)) (λ n q. absurd (h (says-nothing bs n q)))
+    (λ e.
+    let same : answer (flatten (bs ++ cs)) ≡ answer (flatten bs) = ap answer (flatten-append bs cs) ∙ stays reading (flatten bs) (flatten cs) e in
+    (says (bs ++ cs) (λ n q. e n (sym same ∙ q)) ∙ ap reportOf same ∙ sym (says bs e), same))
+
+-- ---- the burst that reports
+
+-- the n-th byte comes in the burst b, behind the bursts bs
+pub record Brings (n : ℕ) (bs : List (List ℕ)) (b : List ℕ) : Type 0 where
+  pub missing : length (flatten bs) < n
+  pub there : n ≤ length (flatten (bs ++ (b ∷ [])))
+
+-- b reports, between bs and cs: no burst before it tells anything, and it and every later one tell the answer of all
 pub record Reported (bs : List (List ℕ)) (b : List ℕ) (cs : List (List ℕ)) : Type 0 where
   pub before : (xs ys : List (List ℕ)) → bs ≡ xs ++ ys → told (after xs .stage) ≡ Waiting
   pub then : (xs ys : List (List ℕ)) → cs ≡ xs ++ ys → told (after (bs ++ (b ∷ xs)) .stage) ≡ reportOf (answer (flatten (bs ++ (b ∷ cs))))
-  pub at-the-end : answer (after (bs ++ (b ∷ cs)) .bytes) ≡ answer (flatten (bs ++ (b ∷ cs)))
 
 -- joined bursts are as long as their parts
 longer : (bs xs ys : List (List ℕ)) → bs ≡ xs ++ ys → length (flatten xs) ≤ length (flatten bs)
 longer bs xs ys e =
-    let all : length (flatten bs) ≡ length (flatten xs) + length (flatten ys) =
-    ap (λ (l : List (List ℕ)). length (flatten l)) e ∙ ap length (flatten-append xs ys) ∙ length-append (flatten xs) (flatten ys) in
+    let all : length (flatten bs) ≡ length (flatten xs) + length (flatten ys) = ap (λ (l : List (List ℕ)). length (flatten l)) e ∙ ap length (flatten-append xs ys) ∙ length-append (flatten xs) (flatten ys) in
     omega arith
 
-pub reported-then : (bs : List (List ℕ)) (b : List ℕ) (cs : List (List ℕ)) → Brings bs b cs → Reported bs b cs
-unfolding soFar
-reported-then bs b cs h =
+-- the burst that brings the last byte that the answer takes
+pub reported-then : (bs : List (List ℕ)) (b : List ℕ) (cs : List (List ℕ)) → Enough (answer (flatten (bs ++ (b ∷ cs))))
+    → Brings (taken (answer (flatten (bs ++ (b ∷ cs))))) bs b → Reported bs b cs
+reported-then bs b cs enough h =
     record {
       before = λ xs ys e.
           let all : bs ++ (b ∷ cs) ≡ xs ++ (ys ++ (b ∷ cs)) = ap (λ (l : List (List ℕ)). l ++ (b ∷ cs)) e ∙ append-assoc xs ys (b ∷ cs) in
@@ -109,57 +132,35 @@ reported-then bs b cs h =
       then = λ xs ys e.
           let all : bs ++ (b ∷ cs) ≡ bs ++ (b ∷ xs) ++ ys = ap (λ (l : List (List ℕ)). bs ++ (b ∷ l)) e ∙ sym (append-assoc bs (b ∷ xs) ys) in
           let first : bs ++ (b ∷ xs) ≡ bs ++ (b ∷ []) ++ xs = sym (append-assoc bs (b ∷ []) xs) in
-          not-later (bs ++ (b ∷ xs)) ys (subst (λ (l : List (List ℕ)). Enough (answer (flatten l))) all (h .answers))
+          not-later (bs ++ (b ∷ xs)) ys (subst (λ (l : List (List ℕ)). Enough (answer (flatten l))) all enough)
           (subst (λ (l : List (List ℕ)). taken (answer (flatten l)) ≤ length (flatten (bs ++ (b ∷ xs)))) all
           (omega (arith, h .there, longer (bs ++ (b ∷ xs)) (bs ++ (b ∷ [])) xs first)))
           ∙ ap (λ (l : List (List ℕ)). reportOf (answer (flatten l))) (sym all);
-      at-the-end = ap (λ a. answer (a .bytes)) (stands-for (bs ++ (b ∷ cs))) ∙ first-142 (flatten (bs ++ (b ∷ cs)));
     }
 
--- ---- there is such a burst wherever the input is not out of data
+-- there is such a burst wherever the input is not out of data
+abbrev Split : ℕ → List (List ℕ) → Type 0
+Split n all = (bs : List (List ℕ)) × (b : List ℕ) × (cs : List (List ℕ)) × (all ≡ bs ++ (b ∷ cs)) × Brings n bs b
 
--- the burst that the n-th byte comes in
-pub record Passes (n : ℕ) (all : List (List ℕ)) : Type 0 where
-  pub bs : List (List ℕ)
-  pub b : List ℕ
-  pub cs : List (List ℕ)
-  pub split : all ≡ bs ++ (b ∷ cs)
-  pub missing : length (flatten bs) < n
-  pub there : n ≤ length (flatten (bs ++ (b ∷ [])))
-
-passes : (n : ℕ) (all : List (List ℕ)) → 0 < n → n ≤ length (flatten all) → Passes n all
+split : (n : ℕ) (all : List (List ℕ)) → 0 < n → n ≤ length (flatten all) → Split n all
 unfolding flatten
-passes n [] l h = absurd (omega arith)
-passes n (b ∷ all) l h = go (leb n (length b)) refl (passes (n - length b) all)
+split n [] l h = absurd (omega arith)
+split n (b ∷ all) l h = go (leb n (length b)) refl (split (n - length b) all)
   where
-    go : (t : Bool) → leb n (length b) ≡ t → (0 < n - length b → n - length b ≤ length (flatten all) → Passes (n - length b) all) → Passes n (b ∷ all)
-    go true q ih =
-        record {
-          bs = [];
-          b = b;
-          cs = all;
-          split = refl;
-          missing = l;
-          there = omega (arith, leb-true n (length b) q, length-append b []);
-        }
+    go : (t : Bool) → leb n (length b) ≡ t → (0 < n - length b → n - length b ≤ length (flatten all) → Split (n - length b) all) → Split n (b ∷ all)
+    go true q ih = ([], b, all, refl, record { missing = l; there = omega (arith, leb-true n (length b) q, length-append b []) })
     go false q ih =
-        let r = ih (omega (arith, leb-false n (length b) q)) (omega (arith, length-append b (flatten all))) in
-        record {
-          bs = b ∷ r .bs;
-          b = r .b;
-          cs = r .cs;
-          split = ap (λ (x : List (List ℕ)). b ∷ x) (r .split);
-          missing = omega (arith, r .missing, leb-false n (length b) q, length-append b (flatten (r .bs)));
-          there = omega (arith, r .there, length-append b (flatten (r .bs ++ (r .b ∷ []))));
-        }
+        let (bs, c, cs, e, r) = ih (omega (arith, leb-false n (length b) q)) (omega (arith, length-append b (flatten all))) in (
+          b ∷ bs,
+          c,
+          cs,
+          ap (λ (x : List (List ℕ)). b ∷ x) e,
+          record {
+            missing = omega (arith, r .missing, leb-false n (length b) q, length-append b (flatten bs));
+            there = omega (arith, r .there, length-append b (flatten (bs ++ (c ∷ []))));
+          },
+        )
 
-pub brought : (all : List (List ℕ)) → Enough (answer (flatten all)) → (p : Passes (taken (answer (flatten all))) all) × Brings (p .bs) (p .b) (p .cs)
-brought all e =
-    let p = passes (taken (answer (flatten all))) all (begun-reading (flatten all) e) (within reading (flatten all) 0 (omega arith)) in (
-      p,
-      record {
-        answers = subst (λ (l : List (List ℕ)). Enough (answer (flatten l))) (p .split) e;
-        missing = subst (λ (l : List (List ℕ)). length (flatten (p .bs)) < taken (answer (flatten l))) (p .split) (p .missing);
-        there = subst (λ (l : List (List ℕ)). taken (answer (flatten l)) ≤ length (flatten (p .bs ++ (p .b ∷ [])))) (p .split) (p .there);
-      },
-    )
+pub brought : (all : List (List ℕ)) → Enough (answer (flatten all))
+    → (bs : List (List ℕ)) × (b : List ℕ) × (cs : List (List ℕ)) × (all ≡ bs ++ (b ∷ cs)) × Brings (taken (answer (flatten all))) bs b
+brought all e = split (taken (answer (flatten all))) all (begun-reading (flatten all) e) (within reading (flatten all) 0 (omega arith))

@@ -121,16 +121,18 @@ fn go_on(piece: u8, at: u8, s: &[u8]) -> Came
 
 // ---- the calls
 
-// A burst of any length, also of none.
-pub fn take(state: &mut [u8; 146], burst: &[u8])
-    ensures { λ _. ⌜ standing (now (state .exit)) ≡ grow (standing (now (state .entry))) (now (burst .entry)) ⌝ }
+// A burst of any length, also of none; what is told after it.
+pub fn take(state: &mut [u8; 146], burst: &[u8]) -> Report
+    ensures { λ r. ⌜ (standing (now (state .exit)) ≡ grow (standing (now (state .entry))) (now (burst .entry)))
+        × (r ≡ told (stage (now (state .exit)))) ⌝ }
 {
     hold(state, burst);
     if state[143] >= 6 {
-        return;
+        return reported(state);
     }
     let came = go_on(state[143], state[144], held(state));
     note(state, came);
+    reported(state)
 }
 
 // The input ended: how the reading of all that came ends.

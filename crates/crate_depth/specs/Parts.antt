@@ -5,7 +5,7 @@ use mathlib.Core.Path.{_≡_, refl, sym, subst}
 use native.Mathlib.Nat.{le-refl}
 use native.Mathlib.Omega.{arith}
 use lib.Dec.{eqb}
-use Rattle.steps.specs.Steps.{Steps, done, _>>=_, _>>_}
+use Rattle.steps.specs.Steps.{Steps, done}
 use Rattle.steps.specs.Leaves.{byte, word, long}
 use Rattle.timing.specs.Axis.{acrossOf, downOf}
 use Rattle.timing.specs.declared.AcrossRead.{AcrossRead}
@@ -28,7 +28,8 @@ use Rattle.crate_descriptors.specs.declared.Points.the-variants.{One, Two}
 use Rattle.crate_descriptors.specs.declared.Slot.{Slot}
 use Rattle.crate_descriptors.specs.declared.Slot.the-variants.{Nothing, Described, White, Six}
 use Rattle.crate_slots.specs.Slots.{saidBy, saidFirst, saidLater}
-use Rattle.crate_end.specs.Ends.{bare, none-bare, six-bare, piece, piecesFrom, ends}
+use Rattle.crate_end.specs.Ends.{bare, piece, piecesFrom, ends}
+use Rattle.crate_end.specs.Whole.{none-bare, six-bare}
 use Rattle.crate_depth.specs.Room.{_then_, each, then-is, Room, room-more, room-then, room-cond, room-ensured}
 
 -- ---- the header
@@ -142,7 +143,7 @@ room-secondary kind k =
     (room-cond (eqb kind 0x02) gtf (other kind) _ _ (λ b. room-ensured (eqb b 0x00) 4 _ _ _ (λ _ _ _ _ _ _. le-refl k))
     (room-then (span 7) _ (λ _. k) _ _ (room-span 7 k) (λ _. le-refl k)))
 
--- in k bytes, those that `into` is to take included
+-- in n bytes, of which k are left behind those that `saidBy` is to take
 abbrev Fits : ℕ → ℕ → Steps Slot → Type 0
 Fits k n p = Room (λ x. left x then k) (n then k) p
 

@@ -1,11 +1,14 @@
 -- A piece that is whole stays whole when bytes are added: so the reading may go on from where it came to.
-use Prim.Native.Nat.{ℕ, zero, suc, _+_, _-_, _≤_}
+use Prim.Native.Nat.{ℕ, zero, suc, _+_, _-_, _<_, _≤_}
 use mathlib.Core.Path.{_≡_, refl, sym, _∙_, ap}
 use mathlib.Core.List.{List, _++_}
+use native.Mathlib.Numerals.{add-one}
 use native.Mathlib.Omega.{arith}
 use lib.ListN.{length, getD, length-append, List·getD-append}
 use Rattle.steps.specs.Steps.{Steps, done, refuse, next, here, Outcome, got, refused, run}
-use Rattle.steps.specs.Laws.{run-next}
+use Rattle.steps.specs.Laws.{run-next, more, zero-left}
+use Rattle.steps.specs.Leaves.{ended}
+use Rattle.steps.specs.declared.End.{End}
 use Rattle.steps.specs.Answers.{taken, by-next}
 use Rattle.crate_text.specs.Text.{skip}
 use Rattle.crate_end.specs.Ends.{piece, Went, onward, went}
@@ -37,6 +40,21 @@ resumed (suc n) i s t at h = by (run (piece i) s at) refl (λ k. resumed n (suc 
         ih k
         ∙ ap (λ o. onward o (λ j. went n (suc i) (s ++ t) j) (record { piece = i; at = at; end = o })) (sym (got-more (piece i) s t at a k q))
     by (refused k m) q ih = let left : 5 - i ≡ suc n = omega arith in ap (λ (m : ℕ). went m i (s ++ t) at) left
+
+-- ---- a turn of the loop
+
+-- a piece more to be read, whose reader gave e, and e is e′, as a match shows; and none
+pub went-more : (i : ℕ) (s : List ℕ) (at : ℕ) {e e′ : End} → i < 5 → ended {A = Unit} tt e ≡ run (piece i) s at → e ≡ e′
+    → went (5 - i) i s at ≡ onward (ended {A = Unit} tt e′) (λ k. went (5 - (i + 1)) (i + 1) s k) (record { piece = i; at = at; end = ended {A = Unit} tt e′ })
+unfolding went
+went-more i s at h q m =
+    ap (λ (n : ℕ). went n i s at) (more 5 i h)
+    ∙ ap (λ (j : ℕ). onward (run (piece i) s at) (λ k. went (5 - (i + 1)) j s k) (record { piece = i; at = at; end = run (piece i) s at })) (sym (add-one i))
+    ∙ ap (λ o. onward o (λ k. went (5 - (i + 1)) (i + 1) s k) (record { piece = i; at = at; end = o })) (sym q ∙ ap (ended {A = Unit} tt) m)
+
+pub went-none : (i : ℕ) (s : List ℕ) (at : ℕ) → 5 ≤ i → went (5 - i) i s at ≡ record { piece = i; at = at; end = run (skip 1) s at }
+unfolding went
+went-none i s at h = ap (λ (n : ℕ). went n i s at) (zero-left 5 i h)
 
 -- ---- how large its numbers are
 

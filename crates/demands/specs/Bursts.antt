@@ -1,11 +1,14 @@
 -- Bursts, of the code's answers: what callers of the exported functions learn; and worked cases of what is told.
 use Prim.Native.Nat.{ℕ}
-use mathlib.Core.Path.{_≡_, refl, sym, ap, ap₂, _∙_}
+use mathlib.Core.Path.{_≡_, refl, sym, ap, ap₂, subst, _∙_}
 use mathlib.Core.List.{List, [], _∷_, _++_, flatten}
 use lib.ListN.{take, drop, set, replicate}
 use Rattle.timing.specs.Axis.{backPorch, acrossOf, downOf}
-use Rattle.steps.specs.Leaves.{byte, word, long}
+use Rattle.steps.specs.Steps.{Outcome, got, refused}
+use Rattle.steps.specs.Leaves.{byte, word, long, Beside}
 use Rattle.steps.specs.Answers.{taken}
+use Rattle.crate_record.specs.Filler.{blank}
+use Rattle.crate_record.specs.declared.Reading.{Reading}
 use Rattle.crate_reading.specs.Reading.{answer}
 use Rattle.crate_head.specs.Head.{header}
 use Rattle.crate_timings.specs.Pairs.{pair, pairs}
@@ -16,10 +19,11 @@ use Rattle.tags.specs.Tags.{tagOf}
 use Rattle.crate_end.specs.Ends.{piece, piecesFrom, went}
 use Rattle.bursts.specs.declared.Report.{Report}
 use Rattle.bursts.specs.declared.Report.the-variants.{Waiting, At, Refused}
-use Rattle.bursts.specs.Bursts.{Standing, held, standing, told, fresh, grow, after}
+use Rattle.bursts.specs.Bursts.{Standing, held, standing, reportOf, told, fresh, grow, after}
 use Rattle.bursts.specs.Theorems.{Made, made-new, made-take, joined}
 use contract.Lifetimes.{Lfts}
 use denote.Ref.{RefT, now}
+use Rattle.bursts.proofs.finish.Reads as finish
 use Rattle.exports.proofs.edid_burst.Reads as edid-burst
 use Rattle.exports.proofs.edid_burst_number.Reads as burst-number
 use Rattle.exports.proofs.edid_burst_taken.Reads as burst-taken
@@ -67,6 +71,23 @@ end-tells {bs} {t} cs (κs, state, e, _, l) = l ∙ ap (λ (x : List ℕ). numbe
 
 pub end-taken : {bs : List (List ℕ)} {t : List ℕ} {n : ℕ} → Calls bs t → Taken t n → n ≡ taken (answer (flatten bs))
 end-taken {bs} {t} cs (κs, state, e, _, l) = l ∙ ap (λ (x : List ℕ). taken (answer (held x))) e ∙ ap taken (joined t bs (made cs))
+
+-- the number told is that of the answer, as the end has it
+pub told-number : {A : Type 0} (o : Outcome A) → numberTold (reportOf o) ≡ numberOf o
+told-number (got a n) = refl
+told-number (refused k n) = refl
+
+-- nothing is asked of a caller
+pub asked : (κs : Lfts 2) (state burst : RefT (List ℕ)) → edid-burst.Asked κs (state, (burst, tt))
+asked κs state burst = tt
+
+pub asked-at-end : (κs : Lfts 1) (state : RefT (List ℕ)) → burst-number.Asked κs (state, tt) × burst-taken.Asked κs (state, tt)
+asked-at-end κs state = (tt, tt)
+
+-- and in Rattle, with the record, to the last field
+pub finish-tells : (bs : List (List ℕ)) (κs : Lfts 1) (state : RefT (List ℕ)) (r : Reading) → Made (now state) bs → finish.Learnt κs (state, tt) r (state, tt)
+    → Beside blank (r .edid) (r .end) (answer (flatten bs))
+finish-tells bs κs state r m l = subst (Beside blank (r .edid) (r .end)) (joined (now state) bs m) l
 
 -- ---- worked cases, as entries of one list under one claim: antt computes each
 

@@ -17,9 +17,9 @@ abbrev pub numberOf : {A : Type 0} → Outcome A → ℕ
 numberOf (got a n) = 0
 numberOf (refused k n) = k
 
--- what is told after a burst, as a number; no refusal has 256
+-- what is told after a burst, as a number; nothing is 257, which no byte is
 abbrev pub numberTold : Report → ℕ
-numberTold Waiting = 256
+numberTold Waiting = 257
 numberTold (At c) = 0
 numberTold (Refused f) = f .number
 

@@ -56,15 +56,14 @@ pub extern "C" fn edid_sum_is_zero(block: &[u8]) -> bool
 
 // ---- of bursts
 
-// Takes a burst; what is told after it: the number as above, or 256 while nothing is.
+// Takes a burst; what is told after it: the number as above, or 257 while nothing is.
 #[no_mangle]
 pub extern "C" fn edid_burst(state: &mut [u8; 146], burst: &[u8]) -> u32
     ensures { λ r. ⌜ (standing (now (state .exit)) ≡ grow (standing (now (state .entry))) (now (burst .entry)))
         × (r ≡ numberTold (told (stage (now (state .exit))))) ⌝ }
 {
-    bursts::take(state, burst);
-    match bursts::reported(state) {
-        Report::Waiting => 256,
+    match bursts::take(state, burst) {
+        Report::Waiting => 257,
         Report::At(_) => 0,
         Report::Refused(f) => f.number as u32,
     }

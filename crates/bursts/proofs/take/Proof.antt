@@ -1,7 +1,7 @@
 -- `bursts::take` meets its contract, by whether the end was known. Assumes nothing.
 use Prim.Native.Nat.{ℕ, _-_, _≤_}
 use mathlib.Core.List.{List}
-use mathlib.Core.Path.{_≡_, sym, subst, ap, _∙_}
+use mathlib.Core.Path.{sym, subst, ap, _∙_}
 use borrow.Author.Needs.{needs}
 use denote.Ref.{now}
 use lib.ListN.{length, getD}
@@ -14,9 +14,9 @@ use Rattle.bursts.proofs.take.Tie as tie
 
 returns : tie.Need-returns
 returns c =
-    let d = c .before .before in
+    let d = c .before .before .before .before in
     let a = d .before .before .before .args in
-    still (standing (now (a .state))) (now (a .burst)) (d .hold .last .0) (d .hold .ensures .0) (d .hold .ensures .1) (c .if1 .taken)
+    (still (standing (now (a .state))) (now (a .burst)) (d .hold .last .0) (d .hold .ensures .0) (d .hold .ensures .1) (search needs), c .reported .ensures)
 
 go-on-requires : tie.Need-go-on-requires
 go-on-requires c κs =
@@ -25,15 +25,18 @@ go-on-requires c κs =
 
 returns-2 : tie.Need-returns-2
 returns-2 c =
-    let g = c .before .before in
+    let n = c .before .before in
+    let g = n .before .before in
     let d = g .before .before .before .before .before .before .before in
     let a = d .before .before .before .args in
-    let s = d .hold .last .0 in
-    anew (standing (now (a .state))) (now (a .burst)) s (d .hold .ensures .0) (d .hold .ensures .1) (c .note .last .0) (ofCame (g .go-on .result))
-    (search needs) (c .note .ensures .0) (c .note .ensures .1)
-    (g .go-on .ensures .0 ∙ ap (λ (l : List ℕ). went (5 - getD s 143 0) (getD s 143 0) l (getD s 144 0)) (g .before .held .ensures))
+    let s = d .hold .last .0 in (
+      anew (standing (now (a .state))) (now (a .burst)) s (d .hold .ensures .0) (d .hold .ensures .1) (n .note .last .0) (ofCame (g .go-on .result))
+          (search needs) (n .note .ensures .0) (n .note .ensures .1)
+          (g .go-on .ensures .0 ∙ ap (λ (l : List ℕ). went (5 - getD s 143 0) (getD s 143 0) l (getD s 144 0)) (g .before .held .ensures)),
+      c .reported2 .ensures,
+    )
 
 pub take-spec : {M : Type 1} → statement M
 take-spec =
     tie.close
-    (tie.spec (search needs) (search needs) returns (search needs) (search needs) (search needs) go-on-requires (search needs) returns-2)
+    (tie.spec (search needs) (search needs) (search needs) returns (search needs) (search needs) (search needs) go-on-requires (search needs) (search needs) returns-2)

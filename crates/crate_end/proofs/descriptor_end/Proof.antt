@@ -9,7 +9,8 @@ use Rattle.crate_descriptors.specs.Descriptors.{descriptor}
 use Rattle.crate_descriptors.specs.declared.Slot.{Slot}
 use Rattle.crate_detailed.specs.declared.MaybeTiming.the-variants as Maybe
 use Rattle.crate_slots.specs.Slots.{saidBy, saidLater}
-use Rattle.crate_end.specs.Ends.{bare, none-bare}
+use Rattle.crate_end.specs.Ends.{bare}
+use Rattle.crate_end.specs.Whole.{none-bare}
 use Rattle.crate_end.proofs.descriptor_end.Statement.{statement}
 use Rattle.crate_end.proofs.descriptor_end.Tie as tie
 

@@ -4,7 +4,8 @@ use mathlib.Core.Path.{_≡_, refl, sym, ap, _∙_}
 use borrow.Author.Needs.{needs}
 use denote.Ref.{now}
 use Rattle.steps.specs.Steps.{Outcome}
-use Rattle.crate_end.specs.Ends.{went, went-more, went-none}
+use Rattle.crate_end.specs.Ends.{went}
+use Rattle.crate_end.specs.Onward.{went-more, went-none}
 use Rattle.crate_end.proofs.go_on.Statement.{statement}
 use Rattle.crate_end.proofs.go_on.Tie as tie
 

@@ -5,7 +5,7 @@ use Rattle.steps.specs.Laws.{same-run, step}
 use Rattle.crate_text.specs.Text.{skip}
 use Rattle.crate_text.specs.Answers.{ofPass}
 use Rattle.crate_descriptors.specs.Descriptors.{closing}
-use Rattle.crate_end.specs.Ends.{six-bare}
+use Rattle.crate_end.specs.Whole.{six-bare}
 use Rattle.crate_end.proofs.six_end.Statement.{statement}
 use Rattle.crate_end.proofs.six_end.Tie as tie
 

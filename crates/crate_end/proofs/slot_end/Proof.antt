@@ -9,7 +9,8 @@ use Rattle.crate_detailed.specs.Answers.{ofDetailed}
 use Rattle.crate_detailed.specs.Detailed.{detailed}
 use Rattle.crate_detailed.specs.declared.MaybeTiming.{MaybeTiming}
 use Rattle.crate_detailed.specs.declared.MaybeTiming.the-variants as Maybe
-use Rattle.crate_end.specs.Ends.{bare, saidAt, piece, some-bare, later-said}
+use Rattle.crate_end.specs.Ends.{bare, saidAt, piece}
+use Rattle.crate_end.specs.Whole.{some-bare, later-said}
 use Rattle.crate_end.proofs.slot_end.Statement.{statement}
 use Rattle.crate_end.proofs.slot_end.Tie as tie
 
