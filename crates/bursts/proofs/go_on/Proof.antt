@@ -1,7 +1,6 @@
 -- `bursts::go_on` meets its contract: its numbers are small, since those that it begins with are. Assumes nothing.
 use Prim.Native.Nat.{_-_}
 use mathlib.Core.Path.{sym, subst}
-use native.Mathlib.Omega.{arith}
 use borrow.Author.Needs.{needs}
 use denote.Ref.{now}
 use Rattle.crate_end.specs.Onward.{Small, small}

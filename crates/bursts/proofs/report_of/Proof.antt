@@ -1,6 +1,5 @@
 -- `bursts::report_of` meets its contract, by its two tests. Assumes nothing.
 use mathlib.Core.Path.{sym, ap}
-use borrow.Author.Needs.{needs}
 use Rattle.bursts.specs.Bursts.{told}
 use Rattle.bursts.specs.Laws.{is-amid, is-accepted, is-refused}
 use Rattle.bursts.proofs.report_of.Statement.{statement}
