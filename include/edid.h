@@ -22,9 +22,14 @@ extern "C" {
  * tells its white point. */
 uint32_t edid_refusal_number(const uint8_t *block, size_t length);
 
-/* How many bytes that reading took, to the end of the record or to its refusal: 88 to 142 where it accepts, so perhaps more than a block has;
- * length where it meets 1.
- * Cut to any smaller length, the block is refused with 1, at the cut. */
+/* How many bytes that reading took, to the end of the record or to its refusal; length where it meets 1. Cut to any smaller length, the block is
+ * refused with 1, at the cut.
+ * Where it accepts: 127, less 13 for each of the last three slots with tag 0x10, and 5 more for each with tag 0xfb whose first index is not zero and
+ * whose second is. So 88, 101, 106, 114, 119, 124, 127, 132, 137 or 142, and each of these occurs. The slots are those that it reads, not those of the
+ * block: the first of the three begins at block[72], and the next one 18 bytes on, but 5 behind tag 0x10, and 23 behind such points. Where its first two
+ * bytes are not zero, nor its third, a slot is a timing and has no tag; else the tag is its fourth byte, and the indexes are its sixth and eleventh.
+ * Which transfers suffice: 142 bytes do for every answer; none rests on more. An acceptance wants the number above, and fewer bytes never give it. So the
+ * 128 of a block do, unless a slot has tag 0xfb as above and none has tag 0x10: then one such slot wants 132 bytes, two 137, three 142. */
 size_t edid_bytes_taken(const uint8_t *block, size_t length);
 
 /* Whether all the bytes add up to zero modulo 256, as the 128 of a whole block should.

@@ -1,19 +1,28 @@
--- A descriptor takes 2 to 20 bytes where it is accepted, the six pairs of an fa slot included.
+-- How many bytes a descriptor takes where it is accepted, the six pairs of an fa slot included: 15, of tag 10 but 2, and of some white points 20.
 use Prim.Native.Nat.{ℕ, zero, suc, _+_, _*_, _≤_}
+use mathlib.Core.Path.{_≡_, refl, sym, ap, subst}
+use mathlib.Core.Bool.{Bool, true, false, cond, not, _&&_}
 use native.Mathlib.Omega.{arith}
 use lib.Dec.{eqb}
-use Rattle.steps.specs.Steps.{Steps, _>>=_}
+use borrow.Author.Tests.{eqb-true}
+use Rattle.steps.specs.Steps.{Steps, done}
 use Rattle.steps.specs.Leaves.{byte, word}
 use Rattle.steps.specs.Answers.{Ends, ends-map, ends-then, ends-cond, Takes, no-byte, takes-then, takes-ensured, takes-looser, takes-byte, takes-word}
 use Rattle.tags.specs.Tags.{tagOf}
 use Rattle.tags.specs.declared.Tag.{Tag}
 use Rattle.crate_record.specs.declared.WhitePoint.{WhitePoint}
 use Rattle.crate_text.specs.Text.{skip, span, text}
-use Rattle.crate_text.specs.Sizes.{takes-skip, takes-span, takes-text}
+use Rattle.crate_text.specs.Sizes.{takes-span, takes-text}
 use Rattle.crate_descriptors.specs.declared.Points.{Points}
+use Rattle.crate_descriptors.specs.declared.Points.the-variants.{One, Two}
 use Rattle.crate_descriptors.specs.declared.Slot.{Slot}
 use Rattle.crate_descriptors.specs.declared.Slot.the-variants.{Nothing, Described, White, Six}
 use Rattle.crate_descriptors.specs.Descriptors.{spaces, closing, point, ended, second, points, white, gtf, none, other, secondary, range, string, raw, byTag, tagged, descriptor}
+
+-- 1 for true
+abbrev pub one : Bool → ℕ
+one true = 1
+one false = 0
 
 -- ---- the parts
 
@@ -33,23 +42,32 @@ takes-point : Takes 5 5 point
 unfolding point byte
 takes-point = λ index low x y g. (omega arith, omega arith)
 
-takes-ended : (ps : Points) → Takes 5 5 (ended ps)
-unfolding ended
-takes-ended ps = takes-then (skip 5) _ 5 5 0 0 (takes-skip 5) (λ _. no-byte)
+-- a first index that is not zero, and a second that is: five bytes are skipped then after the two points
+abbrev pub longer : Points → Bool
+longer (One p) = false
+longer (Two p q) = not (eqb (p .index) 0) && eqb (q .index) 0
 
-takes-second : (p : WhitePoint) → Takes 5 10 (second p)
-unfolding second
-takes-second p =
-    takes-then point _ 5 5 0 5 takes-point
-    (λ q. ends-cond (eqb (q .index) 0) _ _ _
-    (takes-looser (ended _) 5 5 0 5 (omega arith) (omega arith) (takes-ended _)) (omega arith, omega arith))
+longer-two : (p q : WhitePoint) {t : Bool} → eqb (p .index) 0 ≡ false → eqb (q .index) 0 ≡ t → longer (Two p q) ≡ t
+longer-two p q e h = rw (e, h)
 
-takes-points : Takes 10 15 points
-unfolding points
-takes-points =
-    takes-then point _ 5 5 5 10 takes-point
-    (λ p. ends-cond (eqb (p .index) 0) _ _ _
-    (takes-looser (ended _) 5 5 5 10 (omega arith) (omega arith) (takes-ended _)) (takes-second p))
+ends-if : {A : Type 0} (t : Bool) (p q : Steps A) (Q : A → ℕ → Type 0) → (t ≡ true → Ends Q p) → (t ≡ false → Ends Q q) → Ends Q (cond t p q)
+ends-if true p q Q e h = e refl
+ends-if false p q Q e h = h refl
+
+exact-second : (p : WhitePoint) → eqb (p .index) 0 ≡ false → Ends (λ ps m. m ≡ 5 + 5 * one (longer ps)) (second p)
+unfolding second ended skip byte
+exact-second p e =
+    ends-then point _ (λ q m. (5 ≤ m) × (m ≤ 5)) _ takes-point
+    (λ q m r. ends-if (eqb (q .index) 0) (ended (Two p q)) (done (Two p q)) (λ ps k. m + k ≡ 5 + 5 * one (longer ps))
+    (λ t _ _ _ _ _. omega (arith, ap one (longer-two p q e t))) (λ t. omega (arith, ap one (longer-two p q e t))))
+
+exact-points : Ends (λ ps m. m ≡ 10 + 5 * one (longer ps)) points
+unfolding points ended skip byte
+exact-points =
+    ends-then point _ (λ p m. (5 ≤ m) × (m ≤ 5)) _ takes-point
+    (λ p m r. ends-if (eqb (p .index) 0) (ended (One p)) (second p) (λ ps k. m + k ≡ 10 + 5 * one (longer ps)) (λ t _ _ _ _ _. omega arith)
+    (λ t. ends-map (second p) (λ ps k. k ≡ 5 + 5 * one (longer ps)) (λ ps k. m + k ≡ 10 + 5 * one (longer ps)) (λ ps k q. omega arith)
+    (exact-second p t)))
 
 takes-gtf : Takes 7 7 gtf
 unfolding gtf
@@ -83,54 +101,75 @@ left (Described d) = 0
 left (White ps) = 0
 left Six = 13
 
--- at least lo bytes, and at most hi with those that are left
-abbrev pub Whole : ℕ → ℕ → Steps Slot → Type 0
-Whole lo hi p = Ends (λ x m. (lo ≤ m) × (m + left x ≤ hi)) p
+-- the bytes of a descriptor, those that are left included
+abbrev pub size : Slot → ℕ
+size Nothing = 2
+size (Described d) = 15
+size (White ps) = 15 + 5 * one (longer ps)
+size Six = 15
 
-whole-then : {A : Type 0} (p : Steps A) (g : A → Steps Slot) (l h lo hi : ℕ) → Takes l h p → ((a : A) → Whole lo hi (g a))
-    → Whole (l + lo) (h + hi) (p >>= g)
-whole-then p g l h lo hi e f =
-    ends-then p g (λ a m. (l ≤ m) × (m ≤ h)) (λ x k. (l + lo ≤ k) × (k + left x ≤ h + hi)) e
-    (λ a m q.
-    ends-map (g a) (λ x k. (lo ≤ k) × (k + left x ≤ hi)) (λ x k. (l + lo ≤ m + k) × (m + k + left x ≤ h + hi)) (λ x k r. (omega arith, omega arith)) (f a))
+-- what it says with this tag: nothing with tag 10 and no other, points with fb and no other
+abbrev pub isNothing : Slot → Bool
+isNothing Nothing = true
+isNothing (Described d) = false
+isNothing (White ps) = false
+isNothing Six = false
 
-whole-looser : (p : Steps Slot) (lo hi lo′ hi′ : ℕ) → lo′ ≤ lo → hi ≤ hi′ → Whole lo hi p → Whole lo′ hi′ p
-whole-looser p lo hi lo′ hi′ l h e =
-    ends-map p (λ x m. (lo ≤ m) × (m + left x ≤ hi)) (λ x m. (lo′ ≤ m) × (m + left x ≤ hi′)) (λ x m q. (omega arith, omega arith)) e
+abbrev pub isWhite : Slot → Bool
+isWhite Nothing = false
+isWhite (Described d) = false
+isWhite (White ps) = true
+isWhite Six = false
 
-whole-white : Whole 13 18 white
+abbrev pub Says : ℕ → Bool → Bool → Type 0
+Says tag nothing points = (nothing ≡ eqb tag 0x10) × (points ≡ eqb tag 0xfb)
+
+-- and in how many bytes, with the tag and the byte after it
+abbrev pub Tagged : ℕ → Slot → ℕ → Type 0
+Tagged tag x m = Says tag (isNothing x) (isWhite x) × (2 + m + left x ≡ size x)
+
+tagged-white : (tag : ℕ) → Says tag false true → Ends (Tagged tag) white
 unfolding white
-whole-white =
-    whole-then points _ 10 15 3 3 takes-points (λ ps. whole-then (closing 1) _ 3 3 0 0 (takes-closing 1) (λ _. (omega arith, omega arith)))
+tagged-white tag t =
+    ends-then points _ (λ ps m. m ≡ 10 + 5 * one (longer ps)) _ exact-points
+    (λ ps m e. ends-then (closing 1) _ (λ _ k. (3 ≤ k) × (k ≤ 3)) _ (takes-closing 1) (λ _ k q. (t, omega arith)))
 
-whole-range : Whole 13 13 range
+tagged-range : (tag : ℕ) → Says tag false false → Ends (Tagged tag) range
 unfolding range byte
-whole-range =
+tagged-range tag t =
     λ vmin vmax hmin hmax clock kind.
-    ends-then (secondary kind) _ (λ t m. (7 ≤ m) × (m ≤ 7)) _ (takes-secondary kind) (λ t m q. (omega arith, omega arith))
+    ends-then (secondary kind) _ (λ _ m. (7 ≤ m) × (m ≤ 7)) _ (takes-secondary kind) (λ _ m q. (t, omega arith))
 
-whole-string : (tag : ℕ) → Whole 13 13 (string tag)
+tagged-string : (tag : ℕ) → Says tag false false → Ends (Tagged tag) (string tag)
 unfolding string
-whole-string tag = whole-then text _ 13 13 0 0 takes-text (λ t. (omega arith, omega arith))
+tagged-string tag t = ends-then text _ (λ _ m. (13 ≤ m) × (m ≤ 13)) _ takes-text (λ _ m q. (t, omega arith))
 
-whole-raw : (tag : ℕ) → Whole 13 13 (raw tag)
+tagged-raw : (tag : ℕ) → Says tag false false → Ends (Tagged tag) (raw tag)
 unfolding raw
-whole-raw tag = whole-then (span 13) _ 13 13 0 0 (takes-span 13) (λ d. (omega arith, omega arith))
+tagged-raw tag t = ends-then (span 13) _ (λ _ m. (13 ≤ m) × (m ≤ 13)) _ (takes-span 13) (λ _ m q. (t, omega arith))
 
-whole-by-tag : (tag : ℕ) (t : Tag) → Whole 0 18 (byTag tag t)
-whole-by-tag tag Tag.Dummy = (omega arith, omega arith)
-whole-by-tag tag Tag.Pairs = (omega arith, omega arith)
-whole-by-tag tag Tag.Points = whole-looser white 13 18 0 18 (omega arith) (omega arith) whole-white
-whole-by-tag tag Tag.Name = whole-looser (string tag) 13 13 0 18 (omega arith) (omega arith) (whole-string tag)
-whole-by-tag tag Tag.Range = whole-looser range 13 13 0 18 (omega arith) (omega arith) whole-range
-whole-by-tag tag Tag.Text = whole-looser (string tag) 13 13 0 18 (omega arith) (omega arith) (whole-string tag)
-whole-by-tag tag Tag.Serial = whole-looser (string tag) 13 13 0 18 (omega arith) (omega arith) (whole-string tag)
-whole-by-tag tag Tag.Raw = whole-looser (raw tag) 13 13 0 18 (omega arith) (omega arith) (whole-raw tag)
+-- neither 10 nor fb, by the other tests in their order
+tagged-other : (tag : ℕ) → Says tag false false → (pairs name range text serial : Bool)
+    → Ends (Tagged tag)
+    (byTag tag (cond pairs Tag.Pairs (cond false Tag.Points (cond name Tag.Name (cond range Tag.Range (cond text Tag.Text (cond serial Tag.Serial Tag.Raw)))))))
+tagged-other tag t true name range text serial = (t, omega arith)
+tagged-other tag t false true range text serial = tagged-string tag t
+tagged-other tag t false false true text serial = tagged-range tag t
+tagged-other tag t false false false true serial = tagged-string tag t
+tagged-other tag t false false false false true = tagged-string tag t
+tagged-other tag t false false false false false = tagged-raw tag t
 
-whole-tagged : (tag : ℕ) → Whole 0 18 (tagged tag)
-unfolding tagged
-whole-tagged tag = whole-by-tag tag (tagOf tag)
+tagged-by : (tag : ℕ) (ten white : Bool) → eqb tag 0x10 ≡ ten → eqb tag 0xfb ≡ white → Ends (Tagged tag) (tagged tag)
+unfolding tagged tagOf
+tagged-by tag true white e f = subst (λ (k : ℕ). Ends (Tagged k) (tagged k)) (sym (eqb-true tag 0x10 e)) ((refl, refl), omega arith)
+tagged-by tag false true e f = subst (λ (k : ℕ). Ends (Tagged k) (tagged k)) (sym (eqb-true tag 0xfb f)) (tagged-white 0xfb (refl, refl))
+tagged-by tag false false e f =
+    rw (e, f) (tagged-other tag (sym e, sym f) (eqb tag 0xfa) (eqb tag 0xfc) (eqb tag 0xfd) (eqb tag 0xfe) (eqb tag 0xff))
 
-pub whole-descriptor : Whole 2 20 descriptor
-unfolding descriptor
-whole-descriptor = whole-then byte _ 1 1 1 19 takes-byte (λ tag. whole-then byte _ 1 1 0 18 takes-byte (λ _. whole-tagged tag))
+pub ends-tagged : (tag : ℕ) → Ends (Tagged tag) (tagged tag)
+ends-tagged tag = tagged-by tag (eqb tag 0x10) (eqb tag 0xfb) refl refl
+
+pub exact-descriptor : Ends (λ x m. m + left x ≡ size x) descriptor
+unfolding descriptor byte
+exact-descriptor =
+    λ tag _. ends-map (tagged tag) (Tagged tag) (λ x m. suc (suc m) + left x ≡ size x) (λ x m e. omega (arith, e .1)) (ends-tagged tag)

@@ -1,9 +1,9 @@
 -- How many bytes an accepted block takes, and that what is read fits the record.
-use Prim.Native.Nat.{ℕ, _≤_}
+use Prim.Native.Nat.{ℕ, _+_, _*_, _≤_}
 use mathlib.Core.Path.{_≡_, sym, _∙_, subst}
 use mathlib.Core.List.{List}
 use native.Mathlib.Omega.{arith}
-use lib.ListN.{length, length-append}
+use lib.ListN.{length, drop, length-append, length-drop}
 use Rattle.steps.specs.Steps.{done, Outcome, got, refused, run, andThen}
 use Rattle.steps.specs.Laws.{run-bind}
 use Rattle.steps.specs.Leaves.{byte}
@@ -16,13 +16,23 @@ use Rattle.crate_timings.specs.Established.{established}
 use Rattle.crate_timings.specs.Pairs.{pairs}
 use Rattle.crate_timings.specs.Sizes.{ends-established, ends-pairs}
 use Rattle.crate_slots.specs.Slots.{slots, together}
-use Rattle.crate_slots.specs.Sizes.{Four, ends-slots}
+use Rattle.crate_slots.specs.Sizes.{ten, longPoints, howMany, no-more, Four, ends-slots}
 use Rattle.crate_reading.specs.Reading.{Parts, parts, plain, reading, answer}
+
+-- how many of the three later slots have tag 10; and how many tag fb, with a first index that is not zero and a second that is
+abbrev pub tens : Parts → ℕ
+tens p = howMany ten (drop 1 (p .slots))
+
+abbrev pub longs : Parts → ℕ
+longs p = howMany longPoints (drop 1 (p .slots))
+
+pub at-most-three : (p : Parts) → length (p .slots) ≡ 4 → tens p + longs p ≤ 3
+at-most-three p h = omega (arith, no-more (drop 1 (p .slots)), length-drop 1 (p .slots))
 
 -- of the parts p, from m bytes
 pub record Read (p : Parts) (m : ℕ) : Type 0 where
-  pub least : 88 ≤ m
-  pub most : m ≤ 142
+  pub exactly : m + 13 * tens p ≡ 127 + 5 * longs p
+  pub slots : length (p .slots) ≡ 4
   pub fits : Fits (plain p)
 
 ends-parts : Ends Read parts
@@ -34,8 +44,8 @@ ends-parts =
     (λ a j t. ends-then slots _ Four _ ends-slots
     (λ xs i u. ends-then byte _ (λ b h. (1 ≤ h) × (h ≤ 1)) _ takes-byte
     (λ n h v. record {
-      least = omega (arith, q, r .1, t .1, u .least, v);
-      most = omega (arith, q, r .1, t .1, u .most, v);
+      exactly = omega (arith, q, r .1, t .1, u .exactly, v);
+      slots = u .slots;
       fits = record {
         established = r .0;
         standard = omega (arith, length-append a (together xs .standards), t .0, u .standards);
@@ -63,4 +73,4 @@ pub read-of : (s : List ℕ) (p : Parts) (n : ℕ) → run parts s 0 ≡ got p n
 read-of s p n h =
     let q : Ended Read 0 (got p n) = subst (Ended Read 0) h (ends parts Read s 0 ends-parts) in
     let r = q .2 in
-    record { least = omega (arith, q .1, r .least); most = omega (arith, q .1, r .most); fits = r .fits }
+    record { exactly = omega (arith, q .1, r .exactly); slots = r .slots; fits = r .fits }

@@ -51,16 +51,28 @@ Hold (c ∷ cs) = Holds c × Hold cs
 abbrev with : List ℕ → ℕ → ℕ → List ℕ
 with new at end = take at specimen ++ new ++ drop end specimen
 
--- an fb slot: a point of index 1, one of index 0, and `gap` before 0a 20 20
-abbrev white-slot : List ℕ → List ℕ
-white-slot gap = (0 ∷ 0 ∷ 0 ∷ 0xfb ∷ 0 ∷ 1 ∷ 0 ∷ 0 ∷ 0 ∷ 0 ∷ 0 ∷ 0 ∷ 0 ∷ 0 ∷ 0 ∷ []) ++ gap ++ (0x0a ∷ 0x20 ∷ 0x20 ∷ [])
+-- the specimen with these three slots behind its first
+abbrev pub laid : List ℕ → List ℕ → List ℕ → List ℕ
+laid a b c = with (a ++ b ++ c) 72 126
+
+-- a slot of tag 10
+abbrev pub tag-10 : List ℕ
+tag-10 = 0 ∷ 0 ∷ 0 ∷ 0x10 ∷ 0 ∷ []
+
+-- one of tag fb: five bytes of a point with i for its index, five with j, which are no point where i is 0, and `gap` before 0a 20 20
+abbrev pub tag-fb : ℕ → ℕ → List ℕ → List ℕ
+tag-fb i j gap = (0 ∷ 0 ∷ 0 ∷ 0xfb ∷ 0 ∷ i ∷ 0 ∷ 0 ∷ 0 ∷ 0 ∷ j ∷ 0 ∷ 0 ∷ 0 ∷ 0 ∷ []) ++ gap ++ (0x0a ∷ 0x20 ∷ 0x20 ∷ [])
+
+-- with indexes 1 and 0: 23 bytes
+abbrev pub long-fb : List ℕ
+long-fb = tag-fb 1 0 (0 ∷ 0 ∷ 0 ∷ 0 ∷ 0 ∷ [])
 
 -- the block of the fewest bytes, three later slots of 5; and that of the most, three of 23
 pub shortest : List ℕ
-shortest = with (0 ∷ 0 ∷ 0 ∷ 0x10 ∷ 0 ∷ 0 ∷ 0 ∷ 0 ∷ 0x10 ∷ 0 ∷ 0 ∷ 0 ∷ 0 ∷ 0x10 ∷ 0 ∷ []) 72 126
+shortest = laid tag-10 tag-10 tag-10
 
 unfoldable pub longest : List ℕ
-longest = let slot = white-slot (0 ∷ 0 ∷ 0 ∷ 0 ∷ 0 ∷ []) in with (slot ++ slot ++ slot) 72 126
+longest = laid long-fb long-fb long-fb
 
 -- the six points of the longest
 pub six : List WhitePoint
@@ -83,7 +95,7 @@ cases =
     crate-reads (set specimen 62 0x81) (refused 6 66) ∷
     crate-reads (set specimen 83 0x21) (refused 5 84) ∷
     crate-reads (with (0x00 ∷ 0x00 ∷ 0x00 ∷ 0x00 ∷ 0x00 ∷ 0x00 ∷ 0x00 ∷ []) 83 90) (refused 5 84) ∷
-    crate-reads (with (white-slot []) 72 90) (refused 4 93) ∷
+    crate-reads (with (tag-fb 1 0 []) 72 90) (refused 4 93) ∷
     crate-reads (ratioBlock 2 0xc3) (got (specimenOf 2 (mode 1280 0x3fcc_cccd ∷ mode 1920 0x3fcc_cccd ∷ []) (lobby 40 88) [] (drop 1 named)) 127) ∷
     standard-reads specimen (specimenShows 800) ∷
     standard-reads (take 127 specimen) (blankBeside 7 0) ∷

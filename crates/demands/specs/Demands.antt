@@ -1,6 +1,6 @@
 -- What holds of every answer of the definition of demand 2: demand 3, that nothing is dropped, what a refusal is. Each fact of demand 3 holds
 -- of every program that takes one byte after another; here it is that of the whole reading.
-use Prim.Native.Nat.{ℕ, _≤_, _<_}
+use Prim.Native.Nat.{ℕ, _+_, _*_, _≤_, _<_}
 use mathlib.Core.Path.{_≡_, sym, ap, _∙_, subst}
 use mathlib.Core.List.{List}
 use native.Mathlib.Omega.{arith}
@@ -10,8 +10,7 @@ use Rattle.steps.specs.Answers.{taken, within, Enough, cut-short, same-start, o
 use Rattle.crate_record.specs.Seen.{seen, Same, holding, Fits, shows}
 use Rattle.crate_record.specs.declared.EDID.{EDID}
 use Rattle.crate_reading.specs.Reading.{Parts, parts, plain, reading, answer}
-use Rattle.crate_reading.specs.Sizes.{ends-reading, parts-of, read-of}
-use Rattle.demands.specs.Cases.{shortest, longest, cases, cases-hold}
+use Rattle.crate_reading.specs.Sizes.{tens, longs, at-most-three, ends-reading, parts-of, read-of}
 
 -- ---- demand 3
 
@@ -23,20 +22,23 @@ cut-is-out-of-data s k h = cut-short reading s k h
 pub same-bytes-same-answer : (s t : List ℕ) → Enough (answer s) → take (taken (answer s)) t ≡ take (taken (answer s)) s → answer t ≡ answer s
 same-bytes-same-answer s t e q = same-start reading s t e q
 
--- (c) a record only for 88 to 142 bytes, and both ends occur
-pub record-takes-88-to-142 : (s : List ℕ) (e : EDID) (n : ℕ) → answer s ≡ got e n → (88 ≤ n) × (n ≤ 142)
-record-takes-88-to-142 s e n h =
+-- (c) a record only for so many bytes of s, by the four slots that were read: 127, less 13 for each of the last three with tag 10, and 5 more for each with
+-- tag fb whose first index is not zero and whose second is
+abbrev pub Exact : List ℕ → ℕ → Type 0
+Exact s n = (p : Parts) × (run parts s 0 ≡ got p n) × (length (p .slots) ≡ 4) × (n + 13 * tens p ≡ 127 + 5 * longs p)
+
+pub exact-bytes : (s : List ℕ) (e : EDID) (n : ℕ) → answer s ≡ got e n → Exact s n
+exact-bytes s e n h =
     let q = parts-of s e n h in
     let r = read-of s (q .0) n (q .1) in
-    (r .least, r .most)
+    (q .0, q .1, r .slots, r .exactly)
 
-pub a-record-of-88-bytes : (e : EDID) × (answer shortest ≡ got e 88)
-unfolding cases
-a-record-of-88-bytes = (_, cases-hold .0)
-
-pub a-record-of-142-bytes : (e : EDID) × (answer longest ≡ got e 142)
-unfolding cases
-a-record-of-142-bytes = (_, cases-hold .1 .0)
+-- so for 88 to 142; which numbers of these occur, both ends among them, is in `Bytes`
+pub record-takes-88-to-142 : (s : List ℕ) (e : EDID) (n : ℕ) → answer s ≡ got e n → (88 ≤ n) × (n ≤ 142)
+record-takes-88-to-142 s e n h =
+    let q = exact-bytes s e n h in
+    let t = at-most-three (q .0) (q .2) in
+    (omega (arith, q .3, t), omega (arith, q .3, t))
 
 -- ---- records
 

@@ -1,4 +1,5 @@
--- What is shown of the definitions: worked cases, demand 3, and what else holds of every answer of either reading; and of sums of parts.
+-- What is shown of the definitions: worked cases, demand 3, and what else holds of every answer of either reading; of sums of parts, of bursts, and of
+-- how many bytes are taken.
 pub mod Specimen
 pub mod Panels
 pub mod Cases
@@ -7,3 +8,4 @@ pub mod Spans
 pub mod Standard
 pub mod Sums
 pub mod Bursts
+pub mod Bytes

@@ -14,11 +14,11 @@ use Rattle.exports.proofs.edid_sum_is_zero.Reads as sum-is-zero
 use Rattle.demands.specs.Specimen.{specimen}
 
 -- one slice, as a call is handed it
-abbrev Slice : Type 0
+abbrev pub Slice : Type 0
 Slice = RefT (List ℕ) × Unit {0}
 
 -- an answer r, by a function's contract: a call on some slice that holds the bytes s may be made, and this is what the caller learns of it
-abbrev Answers : {R : Type 0} → (Lfts 1 → Slice → Type 0) → (Lfts 1 → Slice → R → Slice → Type 0) → List ℕ → R → Type 0
+abbrev pub Answers : {R : Type 0} → (Lfts 1 → Slice → Type 0) → (Lfts 1 → Slice → R → Slice → Type 0) → List ℕ → R → Type 0
 Answers asked learnt s r = (κs : Lfts 1) × (slice : RefT (List ℕ)) × (now slice ≡ s) × asked κs (slice, tt) × learnt κs (slice, tt) r (slice, tt)
 
 abbrev pub ByteSum : List ℕ → ℕ → Type 0
