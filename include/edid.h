@@ -26,8 +26,8 @@ uint32_t edid_refusal_number(const uint8_t *block, size_t length);
  * refused with 1, at the cut.
  * Where it accepts: 127, less 13 for each of the last three slots with tag 0x10, and 5 more for each with tag 0xfb whose first index is not zero and
  * whose second is. So 88, 101, 106, 114, 119, 124, 127, 132, 137 or 142, and each of these occurs. The slots are those that it reads, not those of the
- * block: the first of the three begins at block[72], and the next one 18 bytes on, but 5 behind tag 0x10, and 23 behind such points. Where its first two
- * bytes are not zero, nor its third, a slot is a timing and has no tag; else the tag is its fourth byte, and the indexes are its sixth and eleventh.
+ * block: the first of the three begins at block[72], and the next one 18 bytes on, but 5 behind tag 0x10, and 23 behind such points. A slot is a timing
+ * and has no tag, unless its first two bytes are both zero or its third is; then the tag is its fourth, and the indexes are its sixth and eleventh.
  * Which transfers suffice: 142 bytes do for every answer; none rests on more. An acceptance wants the number above, and fewer bytes never give it. So the
  * 128 of a block do, unless a slot has tag 0xfb as above and none has tag 0x10: then one such slot wants 132 bytes, two 137, three 142. */
 size_t edid_bytes_taken(const uint8_t *block, size_t length);
