@@ -148,20 +148,20 @@ tagged-raw : (tag : ℕ) → Says tag false false → Ends (Tagged tag) (raw tag
 unfolding raw
 tagged-raw tag t = ends-then (span 13) _ (λ _ m. (13 ≤ m) × (m ≤ 13)) _ (takes-span 13) (λ _ m q. (t, omega arith))
 
--- neither 10 nor fb, by the other tests in their order
-tagged-other : (tag : ℕ) → Says tag false false → (pairs name range text serial : Bool)
+-- neither 10 nor fb: by the other tests, in their order
+tagged-other : (tag : ℕ) → Says tag false false → (fa fc fd fe ff : Bool)
     → Ends (Tagged tag)
-    (byTag tag (cond pairs Tag.Pairs (cond false Tag.Points (cond name Tag.Name (cond range Tag.Range (cond text Tag.Text (cond serial Tag.Serial Tag.Raw)))))))
-tagged-other tag t true name range text serial = (t, omega arith)
-tagged-other tag t false true range text serial = tagged-string tag t
-tagged-other tag t false false true text serial = tagged-range tag t
-tagged-other tag t false false false true serial = tagged-string tag t
+    (byTag tag (cond fa Tag.Pairs (cond false Tag.Points (cond fc Tag.Name (cond fd Tag.Range (cond fe Tag.Text (cond ff Tag.Serial Tag.Raw)))))))
+tagged-other tag t true fc fd fe ff = (t, omega arith)
+tagged-other tag t false true fd fe ff = tagged-string tag t
+tagged-other tag t false false true fe ff = tagged-range tag t
+tagged-other tag t false false false true ff = tagged-string tag t
 tagged-other tag t false false false false true = tagged-string tag t
 tagged-other tag t false false false false false = tagged-raw tag t
 
-tagged-by : (tag : ℕ) (ten white : Bool) → eqb tag 0x10 ≡ ten → eqb tag 0xfb ≡ white → Ends (Tagged tag) (tagged tag)
+tagged-by : (tag : ℕ) (ten fb : Bool) → eqb tag 0x10 ≡ ten → eqb tag 0xfb ≡ fb → Ends (Tagged tag) (tagged tag)
 unfolding tagged tagOf
-tagged-by tag true white e f = subst (λ (k : ℕ). Ends (Tagged k) (tagged k)) (sym (eqb-true tag 0x10 e)) ((refl, refl), omega arith)
+tagged-by tag true fb e f = subst (λ (k : ℕ). Ends (Tagged k) (tagged k)) (sym (eqb-true tag 0x10 e)) ((refl, refl), omega arith)
 tagged-by tag false true e f = subst (λ (k : ℕ). Ends (Tagged k) (tagged k)) (sym (eqb-true tag 0xfb f)) (tagged-white 0xfb (refl, refl))
 tagged-by tag false false e f =
     rw (e, f) (tagged-other tag (sym e, sym f) (eqb tag 0xfa) (eqb tag 0xfc) (eqb tag 0xfd) (eqb tag 0xfe) (eqb tag 0xff))
