@@ -8,6 +8,7 @@ use timing::StereoType;
 use timing::SyncPolarity;
 ghost use mathlib.Core.Path.{_≡_};
 ghost use Rattle.page.specs.Page.{page, _▷_};
+ghost use Rattle.page.specs.Words.{field8, each};
 ghost use Rattle.shared_lines.specs.Lines as lines;
 
 // ---- the head of a block
@@ -92,17 +93,26 @@ pub fn dpms_line(
     page::newline(out, n)
 }
 
+// Each byte of s in decimal.
+pub fn numbers(out: &mut [u8; 4096], at: usize, s: &[u8]) -> usize
+    ensures { λ r. ⌜ page (now (out .exit)) r ≡ page (now (out .entry)) at ▷ each field8 (now (s .entry)) ⌝ }
+{
+    let mut n = at;
+    let mut i = 0;
+    while i < s.len() {
+        n = page::field8(out, n, s[i]);
+        i += 1;
+    }
+    n
+}
+
 // The numbers of the flags that are set: the first len of items.
 pub fn established_line(out: &mut [u8; 4096], at: usize, items: [u8; 17], len: usize) -> usize
     ensures { λ r. ⌜ page (now (out .exit)) r ≡ page (now (out .entry)) at ▷ lines.establishedLine items len ⌝ }
 {
     let count = page::least(len, 17);
     let mut n = page::bytes(out, at, b"established");
-    let mut i = 0;
-    while i < count {
-        n = page::field8(out, n, items[i]);
-        i += 1;
-    }
+    n = numbers(out, n, &items[..count]);
     page::newline(out, n)
 }
 

@@ -27,7 +27,7 @@ blankWhite = record { point = record { index = 0; place = blankChromaticity; gam
 abbrev pub blankStandard : HeldPair
 blankStandard = record { pair = record { width = 0; ratio = record { width = 0; height = 0 }; rate = 0 }; slot = 0 }
 
-abbrev blankTiming : DetailedTiming
+abbrev pub blankTiming : DetailedTiming
 blankTiming = record {
   clock = 0;
   across = record { active = pixels 0; front = pixels 0; sync = pixels 0; back = pixels 0 };

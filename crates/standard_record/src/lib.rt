@@ -289,7 +289,7 @@ pub const BLANK_STANDARD: HeldPair = HeldPair {
     slot: 0,
 };
 
-const BLANK_TIMING: DetailedTiming = DetailedTiming {
+pub const BLANK_TIMING: DetailedTiming = DetailedTiming {
     clock: 0,
     across: Across {
         active: Pixels(0),

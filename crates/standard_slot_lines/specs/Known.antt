@@ -11,7 +11,7 @@ use Rattle.standard_record.specs.declared.Sync.the-variants.{BipolarAnalogCompo
 use Rattle.standard_record.specs.declared.SecondaryTiming.the-variants.{GTF}
 use Rattle.standard_record.specs.declared.Descriptor.the-variants.{Range}
 use Rattle.shared_lines.specs.Lines.{axes, borderToStereo, polarity, limits}
-use Rattle.standard_slot_lines.specs.Lines.{sync, detailedLine, secondary, rangeFields, descriptorFields, heldLine}
+use Rattle.standard_slot_lines.specs.Lines.{sync, timingFields, detailedLine, secondary, rangeFields, descriptorFields, heldLine}
 
 detailed : detailedLine (record {
   timing = record {
@@ -26,7 +26,7 @@ detailed : detailedLine (record {
   };
   slot = 1;
 }) ≡ text "detailed 40000000 800 600 40 1 128 4 88 23 320 180 0 0 0 0 3 1 1 1\n"
-unfolding detailedLine axes borderToStereo flat flag field32 field16 field8 decimalIn sync polarity
+unfolding detailedLine timingFields axes borderToStereo flat flag field32 field16 field8 decimalIn sync polarity
 detailed = refl
 
 bipolar : sync (BipolarAnalogComposite true RGB) ≡ text " 1 1 1"

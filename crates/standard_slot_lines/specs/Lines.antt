@@ -8,6 +8,7 @@ use Rattle.standard_record.specs.declared.SyncLine.{SyncLine}
 use Rattle.standard_record.specs.declared.SyncLine.the-variants.{Green, RGB}
 use Rattle.standard_record.specs.declared.Sync.{Sync}
 use Rattle.standard_record.specs.declared.Sync.the-variants.{AnalogComposite, BipolarAnalogComposite, DigitalComposite, DigitalSeparate}
+use Rattle.standard_record.specs.declared.DetailedTiming.{DetailedTiming}
 use Rattle.standard_record.specs.declared.HeldTiming.{HeldTiming}
 use Rattle.standard_record.specs.declared.DetailedTimings.{DetailedTimings}
 use Rattle.standard_record.specs.declared.Limits.{Limits}
@@ -31,12 +32,15 @@ sync (BipolarAnalogComposite serrated l) = flat (text " 1" ∷ flag serrated ∷
 sync (DigitalComposite serrated p) = flat (text " 2" ∷ flag serrated ∷ polarity p ∷ [])
 sync (DigitalSeparate horizontal vertical) = flat (text " 3" ∷ polarity horizontal ∷ polarity vertical ∷ [])
 
+-- a timing, wherever it stands
+unfoldable pub timingFields : DetailedTiming → List ℕ
+timingFields d = flat (
+    axes (d .clock) (d .across) (d .down) ∷ field16 (d .size .width) ∷ field16 (d .size .height) ∷
+    borderToStereo (d .border) (d .interlaced) (d .stereo) ∷ sync (d .sync) ∷ [])
+
 -- the slot's number last, as in each line of an entry
 unfoldable pub detailedLine : HeldTiming → List ℕ
-detailedLine h = let d = h .timing in flat (
-    axes (d .clock) (d .across) (d .down) ∷ field16 (d .size .width) ∷ field16 (d .size .height) ∷
-    borderToStereo (d .border) (d .interlaced) (d .stereo) ∷ sync (d .sync) ∷ field16 (h .slot) ∷
-    newline ∷ [])
+detailedLine h = flat (timingFields (h .timing) ∷ field16 (h .slot) ∷ newline ∷ [])
 
 -- a length above the list's size counts as that size
 unfoldable pub detailedLines : DetailedTimings → List ℕ

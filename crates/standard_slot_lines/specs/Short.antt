@@ -8,6 +8,7 @@ use Rattle.page.specs.Short.{field32-length, field16-length, field8-length, fla
 use Rattle.shared_lines.specs.Short.{axes-length, border-length, polarity-length, text-fields-length, raw-length, run-fields-length, limits-length}
 use Rattle.standard_record.specs.declared.Sync.{Sync}
 use Rattle.standard_record.specs.declared.Sync.the-variants.{AnalogComposite, BipolarAnalogComposite, DigitalComposite, DigitalSeparate}
+use Rattle.standard_record.specs.declared.DetailedTiming.{DetailedTiming}
 use Rattle.standard_record.specs.declared.HeldTiming.{HeldTiming}
 use Rattle.standard_record.specs.declared.DetailedTimings.{DetailedTimings}
 use Rattle.standard_record.specs.declared.Limits.{Limits}
@@ -17,7 +18,7 @@ use Rattle.standard_record.specs.declared.Descriptor.{Descriptor}
 use Rattle.standard_record.specs.declared.Descriptor.the-variants.{Serial, Text, Range, Name, Undefined, MakerDefined}
 use Rattle.standard_record.specs.declared.Held.{Held}
 use Rattle.standard_record.specs.declared.Descriptors.{Descriptors}
-use Rattle.standard_slot_lines.specs.Lines.{line, sync, detailedLine, detailedLines, secondary, rangeFields, descriptorFields, heldLine, descriptorLines}
+use Rattle.standard_slot_lines.specs.Lines.{line, sync, timingFields, detailedLine, detailedLines, secondary, rangeFields, descriptorFields, heldLine, descriptorLines}
 
 sync-length : (t : Sync) → length (sync t) ≤ 8
 unfolding sync flat
@@ -26,10 +27,9 @@ sync-length (BipolarAnalogComposite b l) = simp length-append (omega (arith, fla
 sync-length (DigitalComposite b p) = simp length-append (omega (arith, flag-length b, polarity-length p))
 sync-length (DigitalSeparate h v) = simp length-append (omega (arith, polarity-length h, polarity-length v))
 
-detailed-length : (h : HeldTiming) → length (detailedLine h) ≤ 112
-unfolding detailedLine flat
-detailed-length h =
-    let d = h .timing in
+pub timing-length : (d : DetailedTiming) → length (timingFields d) ≤ 105
+unfolding timingFields flat
+timing-length d =
     simp length-append
     (omega (
       arith,
@@ -38,8 +38,11 @@ detailed-length h =
       field16-length (d .size .height),
       border-length (d .border) (d .interlaced) (d .stereo),
       sync-length (d .sync),
-      field16-length (h .slot),
     ))
+
+detailed-length : (h : HeldTiming) → length (detailedLine h) ≤ 112
+unfolding detailedLine flat
+detailed-length h = simp length-append (omega (arith, timing-length (h .timing), field16-length (h .slot)))
 
 pub detailed-lengths : (l : DetailedTimings) → length (detailedLines l) ≤ 448
 unfolding detailedLines

@@ -1,6 +1,7 @@
 // The lines of the slots, detailed timings and descriptors, appended to a page.
 use standard_record::Descriptor;
 use standard_record::Descriptors;
+use standard_record::DetailedTiming;
 use standard_record::DetailedTimings;
 use standard_record::Held;
 use standard_record::HeldTiming;
@@ -55,10 +56,9 @@ fn sync(out: &mut [u8; 4096], at: usize, t: Sync) -> usize
     }
 }
 
-fn detailed_line(out: &mut [u8; 4096], at: usize, t: HeldTiming) -> usize
-    ensures { λ r. ⌜ page (now (out .exit)) r ≡ page (now (out .entry)) at ▷ lines.detailedLine t ⌝ }
+pub fn timing_fields(out: &mut [u8; 4096], at: usize, d: DetailedTiming) -> usize
+    ensures { λ r. ⌜ page (now (out .exit)) r ≡ page (now (out .entry)) at ▷ lines.timingFields d ⌝ }
 {
-    let d = t.timing;
     // an enum that is a field is copied before it is passed
     let kind = d.sync;
     let glasses = d.stereo;
@@ -66,8 +66,14 @@ fn detailed_line(out: &mut [u8; 4096], at: usize, t: HeldTiming) -> usize
     n = page::field16(out, n, d.size.width);
     n = page::field16(out, n, d.size.height);
     n = shared_lines::border_to_stereo(out, n, d.border, d.interlaced, glasses);
-    n = sync(out, n, kind);
-    n = page::field16(out, n, t.slot);
+    sync(out, n, kind)
+}
+
+fn detailed_line(out: &mut [u8; 4096], at: usize, h: HeldTiming) -> usize
+    ensures { λ r. ⌜ page (now (out .exit)) r ≡ page (now (out .entry)) at ▷ lines.detailedLine h ⌝ }
+{
+    let mut n = timing_fields(out, at, h.timing);
+    n = page::field16(out, n, h.slot);
     page::newline(out, n)
 }
 

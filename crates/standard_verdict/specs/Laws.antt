@@ -19,9 +19,13 @@ pub then-first : (v w : Verdict) → (v then w) ≡ Accepted → v ≡ Accepted
 then-first Accepted w e = refl
 then-first (Refused f) w e = e
 
-must-hold : (t : Bool) (n at : ℕ) → must t n at ≡ Accepted → t ≡ true
+pub must-hold : (t : Bool) (n at : ℕ) → must t n at ≡ Accepted → t ≡ true
 must-hold true n at e = refl
 must-hold false n at e = cc
+
+pub then-second : (v w : Verdict) → (v then w) ≡ Accepted → w ≡ Accepted
+then-second Accepted w e = e
+then-second (Refused f) w e = cc
 
 -- what is not refused before the slots has 128 bytes
 pub has-128 : (s : List ℕ) → beforeSlots s ≡ Accepted → length s ≡ 128

@@ -18,7 +18,7 @@ fn header_in(s: &[u8]) -> bool
     }
 }
 
-fn refused_at(number: u8, at: usize) -> Verdict
+pub fn refused_at(number: u8, at: usize) -> Verdict
     ensures { λ r. ⌜ r ≡ refusedAt number at ⌝ }
 {
     Verdict::Refused(Refusal { number, at })
