@@ -1,4 +1,6 @@
-"""Holds the standard reading of a folder of blocks to edid-decode: timings, texts and range limits of the first 128 bytes of each file."""
+"""Holds the readings of a folder of blocks to edid-decode: timings, texts and range limits of the first 128 bytes of each file, or video codes
+and timings of the second 128, a CTA-861 extension."""
+import collections
 import os
 import re
 import shutil
@@ -11,38 +13,49 @@ TEXTS = {"Display Product Name": "name", "Alphanumeric Data String": "text", "Di
 CLASSES = {"GTF": "none", "Secondary GTF": "gtf", "Bare Limits": "other 1", "CVT": "other 4"}
 
 
+# the 128 bytes that end there, where edid-decode tells of them, the kinds of facts that are compared, where not all are, and names
+Part = collections.namedtuple("Part", "end title kinds facts reading")
+BASE = Part(128, "Block 0", None, "timings, texts and ranges", "standard reading")
+EXTENSION = Part(256, "Block 1, CTA-861", ("video", "detailed"), "video codes and timings", "extension")
+
+
 def missing():
     """What has to be installed, if anything."""
     return None if shutil.which("edid-decode") else "there is no edid-decode; Debian's package edid-decode has it"
 
 
-def compare(folder, replay, stop):
-    """Prints where the two part, file by file; the number of files that part. replay is the words that run the standard reading, stop ends all
-    with a word."""
-    blocks = {}
+def files_in(folder, stop):
+    """The files whose names end in .bin, by their names."""
+    files = {}
     for name in sorted(e.name for e in os.scandir(folder) if e.is_file() and e.name.endswith(".bin")):
         with open(os.path.join(folder, name), "rb") as f:
-            blocks[name] = f.read(128)
-    if not blocks:
-        stop(f"{folder} has no file that ends in .bin")
+            files[name] = f.read()
+    return files or stop(f"{folder} has no file that ends in .bin")
+
+
+def compare(folder, replay, stop, part):
+    """Prints where the two part, file by file; the number of files that part. replay is the words that run the reading, stop ends all with a
+    word, part is BASE or EXTENSION."""
+    files = {name: file for name, file in files_in(folder, stop).items() if len(file) >= part.end}
+    blocks = {name: file[part.end - 128:part.end] for name, file in files.items()}
     frames = b"".join(struct.pack("<H", len(block)) + block for block in blocks.values())
     listings = subprocess.run(replay, input=frames, stdout=subprocess.PIPE, check=True).stdout.decode("ascii").split("--\n")[:-1]
     if len(listings) != len(blocks):
         stop(f"{len(listings)} of {len(blocks)} blocks were answered")
     alike = parting = refused = facts = 0
     for (name, block), listing in zip(blocks.items(), listings):
-        ours, theirs = our_facts(listing, block), their_facts(block)
+        ours, theirs = our_facts(listing, block), their_facts(files[name][:part.end], part)
         facts += len(theirs)
         only = [fact for fact in ours if not take(theirs, fact)]
         if listing.startswith("refuse"):
             refused += 1
-            print(f"{name}: {listing.strip()}; edid-decode has {len(theirs)} timings, texts and ranges")
+            print(f"{name}: {listing.strip()}; edid-decode has {len(theirs)} {part.facts}")
         elif only or theirs:
             parting += 1
-            print("\n  ".join([name] + [f"standard reading: {show(fact)}" for fact in only] + [f"edid-decode: {show(fact)}" for fact in theirs]))
+            print("\n  ".join([name] + [f"{part.reading}: {show(fact)}" for fact in only] + [f"edid-decode: {show(fact)}" for fact in theirs]))
         else:
             alike += 1
-    print(f"{len(blocks)} blocks, {facts:,} timings, texts and ranges by edid-decode: {alike} blocks alike, {parting} part, {refused} refused")
+    print(f"{len(blocks)} blocks, {facts:,} {part.facts} by edid-decode: {alike} blocks alike, {parting} part, {refused} refused")
     return parting + refused
 
 
@@ -71,7 +84,9 @@ def our_facts(listing, block):
             width, across, down, rate, _ = map(int, words)
             facts.append((kind, f"{width}x{width * down // across}", float(rate)))
         elif kind == "detailed":
-            facts.append((kind, our_timing(*map(int, words[:-1])), ""))
+            facts.append((kind, our_timing(*map(int, words[:18])), ""))
+        elif kind == "video":
+            facts += (("video", our_code(int(word)), "") for word in words)
         elif kind in TEXTS.values():
             start, length, _ = map(int, words)
             facts.append((kind, block[start:start + length].decode("latin-1"), ""))
@@ -82,16 +97,21 @@ def our_facts(listing, block):
     return facts
 
 
+def our_code(byte):
+    """A code of 1 to 64 with the top digit is marked as native."""
+    return f"{byte - 128} native" if 128 < byte <= 192 else str(byte)
+
+
 def our_timing(clock, width, height, hfront, vfront, hsync, vsync, hback, vback, wide, high, hborder, vborder, interlaced, stereo, kind, one, two):
     polarity = {2: "-+"[two], 3: "-+"[one] + "-+"[two]}.get(kind, "")
     size = f"{wide}x{high} mm" if wide or high else ""
     return f"{width}x{height}{'i' * interlaced} {clock // 1000} kHz {hfront} {hsync} {hback} {vfront} {vsync} {vback} {size} {polarity}"
 
 
-def their_facts(block):
-    text = subprocess.run(["edid-decode", "-s", "-"], input=block, stdout=subprocess.PIPE, stderr=subprocess.DEVNULL).stdout.decode("latin-1")
+def their_facts(file, part):
+    text = subprocess.run(["edid-decode", "-s", "-"], input=file, stdout=subprocess.PIPE, stderr=subprocess.DEVNULL).stdout.decode("latin-1")
     facts, section, timing = [], "", None
-    for line in text.splitlines():
+    for line in text.partition(f"\n{part.title}")[2].partition("\n----")[0].splitlines():
         if re.match(r" {2}\S", line):
             section = line.strip()
         if found := re.match(r" +DTD +\d+: +(\d+x\d+i?) .* (\d+)\.(\d{6}) MHz(.*)", line):
@@ -103,6 +123,8 @@ def their_facts(block):
             timing[5:5] = found.group(1, 2, 3)
             facts.append(("detailed", " ".join(timing) + f" {across}{sign(found[4])}", ""))
             timing = None
+        elif section == "Video Data Block:" and (found := re.match(r" +(?:VIC +(\d+):.*?|Unknown \(VIC +(\d+)\))( \(native\))?$", line)):
+            facts.append(("video", (found[1] or found[2]) + " native" * bool(found[3]), ""))
         elif found := re.match(r" +[^:]+: +(\d+x\d+i?) +(\d+\.\d+) Hz ", line):
             kind = "established" if section == "Established Timings I & II:" else "standard"
             facts.append((kind, found[1], float(found[2])))
@@ -110,7 +132,7 @@ def their_facts(block):
             facts.append((TEXTS.get(found[1], found[1]), found[2], ""))
         elif found := re.match(r" +Monitor ranges \((.*)\): (\d+-\d+) Hz V, (\d+-\d+) kHz H(?:, max dotclock (\d+) MHz)?", line):
             facts.append(("range", f"{found[2]} Hz {found[3]} kHz {found[4] or 0} MHz {CLASSES.get(found[1], found[1])}", ""))
-    return facts
+    return [fact for fact in facts if not part.kinds or fact[0] in part.kinds]
 
 
 def sign(letter):

@@ -195,14 +195,19 @@ def frames(stream):
         yield stream.read(little(head))
 
 
-def main():
+def answer(reading, block):
+    """The listing of a block."""
+    try:
+        lines = reading(block)
+    except Refused as refusal:
+        lines = [line("refuse", *refusal.args)]
+    return "".join(f"{words}\n" for words in lines)
+
+
+def main(reading):
     for block in frames(sys.stdin.buffer):
-        try:
-            lines = reading(block)
-        except Refused as refusal:
-            lines = [line("refuse", *refusal.args)]
-        print(*lines, "--", sep="\n")
+        print(answer(reading, block), "--\n", sep="", end="")
 
 
 if __name__ == "__main__":
-    main()
+    main(reading)

@@ -2,19 +2,17 @@
 use Prim.Native.Nat.{ℕ, suc, _+_, _*_, _≤_, min}
 use mathlib.Core.Bool.{Bool, true, false, cond}
 use mathlib.Core.List.{List, [], _∷_, _++_, flatMap}
-use mathlib.Core.Path.{_≡_, refl, sym, ap, _∙_}
+use mathlib.Core.Path.{_≡_, refl}
 use native.Mathlib.Omega.{arith}
 use lib.Dec.{eqb}
 use lib.ListN.{length, take, drop, length-append}
-use borrow.Author.Tests.{eqb-true}
 use Rattle.page.specs.Page.{page, _▷_}
 use Rattle.page.specs.Words.{space, hexOf2, field8, flat, each}
 use Rattle.page.specs.Short.{field8-length, byte-length, first-length}
 use Rattle.page.specs.Meaning.{whole, only}
-use Rattle.fixed.specs.Fixed.{pad, count, count-at-most, shown-whole}
+use Rattle.fixed.specs.Fixed.{count, count-at-most, shown-whole}
 use Rattle.steps.specs.declared.Span.{Span}
 use Rattle.shared_lines.specs.Short.{refuse-length}
-use Rattle.standard_slot_lines.specs.Lines.{timingFields}
 use Rattle.standard_slot_lines.specs.Short.{timing-length}
 use Rattle.standard_record.specs.declared.DetailedTiming.{DetailedTiming}
 use Rattle.standard_record.specs.declared.Verdict.{Verdict}
@@ -22,9 +20,8 @@ use Rattle.standard_record.specs.declared.Verdict.the-variants.{Accepted, Refus
 use Rattle.cta_record.specs.Filler.{blankBlock}
 use Rattle.cta_record.specs.Seen.{holding}
 use Rattle.cta_record.specs.declared.DataBlock.{DataBlock}
-use Rattle.cta_record.specs.declared.Cta.{Cta}
 use Rattle.cta_reading.specs.Along.{Row, none, one}
-use Rattle.cta_reading.specs.Cta.{tagAt, endAt, blocksIn, dataBlock, blockAt, plain, ctaOf}
+use Rattle.cta_reading.specs.Cta.{tagAt, endAt, dataBlock, blockAt, plain, ctaOf}
 use Rattle.cta_reading.specs.Promises.{blocks-lie, fits, record-is}
 use Rattle.cta_lines.specs.Lines.{headLine, videoLine, runField, blockLine, blockLines, timingLine, timingLines, recordLines, judgedLines, listingOf}
 

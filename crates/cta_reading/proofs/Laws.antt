@@ -1,6 +1,6 @@
 -- What the proofs of the two loops cite: the lists as the code holds them, and a turn of each. Assumes nothing.
-use Prim.Native.Nat.{ℕ, _+_, _*_, _≤_, _<_}
-use mathlib.Core.Path.{_≡_, refl, sym, ap, _∙_}
+use Prim.Native.Nat.{ℕ, _+_, _≤_, _<_}
+use mathlib.Core.Path.{_≡_, ap, _∙_}
 use mathlib.Core.Bool.{true, false}
 use mathlib.Core.List.{List, [], _∷_, _++_, flatMap}
 use native.Mathlib.Omega.{arith}
@@ -8,7 +8,7 @@ use lib.Dec.{ltb}
 use lib.ListN.{length, length-append}
 use borrow.Author.Tests.{lt-ltb, le-ltb, le-leb, lt-leb}
 use Rattle.bits.specs.Bytes.{part}
-use Rattle.fixed.specs.Gather.{Holds, held-at-most, took, kept}
+use Rattle.fixed.specs.Gather.{Holds, held-at-most}
 use Rattle.standard_record.specs.Filler.{blankTiming}
 use Rattle.standard_record.specs.declared.DetailedTiming.{DetailedTiming}
 use Rattle.standard_record.specs.declared.Verdict.the-variants.{Accepted}
@@ -17,8 +17,8 @@ use Rattle.standard_timing.specs.declared.Timed.the-variants.{Is, Over}
 use Rattle.standard_verdict.specs.Verdict.{refusedAt}
 use Rattle.cta_record.specs.Filler.{blankBlock}
 use Rattle.cta_record.specs.declared.DataBlock.{DataBlock}
-use Rattle.cta_reading.specs.Along.{Passed, none-passed, one-more, refused-here, all-passed, along, first}
-use Rattle.cta_reading.specs.Cta.{offsetIn, endAt, blocksIn, judgeBlock, videoAt, blockAt, isTiming, timingsIn, judgeTiming, judged, timingAt, listed, beforeBlocks, plain}
+use Rattle.cta_reading.specs.Along.{Passed, none-passed, one-more, refused-here, all-passed, first}
+use Rattle.cta_reading.specs.Cta.{offsetIn, endAt, blocksIn, judgeBlock, videoAt, blockAt, isTiming, timingsIn, judgeTiming, judged, timingAt, beforeBlocks, plain}
 use Rattle.cta_reading.specs.Lists.{BlocksOf}
 use Rattle.cta_reading.specs.Judged.{start, start-bounds, offset-below, has-offset, timing-ends, timings-from}
 use Rattle.cta_reading.specs.Room.{Few, few, flat-snoc, flat-at-most, timing-1, spaced}

@@ -13,7 +13,7 @@ use Rattle.sums.specs.Sum.{byteSum}
 use Rattle.standard_record.specs.declared.Verdict.the-variants.{Accepted}
 use Rattle.standard_verdict.specs.Verdict.{must, _then_}
 use Rattle.standard_verdict.specs.Laws.{then-first, then-second, must-hold}
-use Rattle.cta_reading.specs.Along.{along, along-none}
+use Rattle.cta_reading.specs.Along.{along}
 use Rattle.cta_reading.specs.Cta.{offsetIn, isTiming, timingsIn, isOffset, beforeBlocks}
 
 and-first : (a b : Bool) → (a && b) ≡ true → a ≡ true

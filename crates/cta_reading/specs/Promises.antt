@@ -1,17 +1,16 @@
 -- What the reading promises: where a refusal lies, that the data blocks fill the bytes up to the offset, where spans and timings lie, and that no
 -- list is cut.
-use Prim.Native.Nat.{ℕ, zero, suc, _+_, _≤_, _<_}
-use mathlib.Core.Path.{_≡_, refl, sym, ap, _∙_, subst}
+use Prim.Native.Nat.{ℕ, zero, suc, _+_, _*_, _≤_, _<_}
+use mathlib.Core.Path.{_≡_, refl, sym, ap, _∙_}
 use mathlib.Core.Bool.{Bool, true, false, cond}
 use mathlib.Core.List.{List, [], _∷_, _++_, flatMap}
 use mathlib.Core.Logic.{⊎-elim}
 use native.Mathlib.Omega.{arith}
 use lib.Dec.{eqb, ltb, leb}
 use lib.ListN.{length}
-use borrow.Author.Tests.{eqb-true, ltb-true, ltb-false, leb-true, leb-false}
+use borrow.Author.Tests.{ltb-true, ltb-false, leb-true, leb-false, lt-leb, ne-eqb}
 use Rattle.bits.specs.Bytes.{_!_, part}
 use Rattle.sums.specs.Sum.{byteSum}
-use Rattle.steps.specs.declared.Refusal.{Refusal}
 use Rattle.standard_record.specs.declared.Verdict.{Verdict}
 use Rattle.standard_record.specs.declared.Verdict.the-variants.{Accepted, Refused}
 use Rattle.standard_timing.specs.Timing.{timingIn}
@@ -22,7 +21,7 @@ use Rattle.standard_verdict.specs.Laws.{then-first, then-second, must-hold}
 use Rattle.cta_record.specs.Seen.{seen, holding, Fits, shows}
 use Rattle.cta_record.specs.declared.DataBlock.{DataBlock}
 use Rattle.cta_reading.specs.Along.{along, along-length, first, Row, none, one}
-use Rattle.cta_reading.specs.Cta.{offsetIn, tagAt, lengthAt, endAt, blocksIn, judgeBlock, dataBlock, blockAt, isTiming, timingsIn, judged, judgeTiming, timingAt, isOffset, beforeBlocks, verdictOf, plain, beside, ctaOf}
+use Rattle.cta_reading.specs.Cta.{offsetIn, tagAt, endAt, blocksIn, judgeBlock, dataBlock, blockAt, isTiming, timingsIn, judged, judgeTiming, timingAt, isOffset, beforeBlocks, verdictOf, plain, beside, ctaOf}
 use Rattle.cta_reading.specs.Judged.{offset-is, start, start-bounds, offset-below, has-offset, timing-ends, timings-from}
 use Rattle.cta_reading.specs.Room.{few, video-room, flat-at-most, timing-1}
 
@@ -117,6 +116,13 @@ Inside d [] = Unit
 Inside d (b ∷ bs) = (5 ≤ b .run .start) × (b .run .start + b .run .len ≤ d) × Inside d bs
 
 module _ (s : List ℕ) where
+  -- timings lie one behind the other from p on, end before byte 127, and behind the last there is none
+  pub record Timings (p : ℕ) (ps : List ℕ) : Type 0 where
+    pub end : ℕ
+    pub row : Row (λ p. p + 18) p ps end
+    pub before-127 : end ≤ 127
+    pub no-more : isTiming s end ≡ false
+
   fill : (n p : ℕ) → p ≤ offsetIn s → offsetIn s ≤ p + n → first (judgeBlock s) (along (λ p. ltb p (offsetIn s)) (endAt s) n p) ≡ Accepted
       → Row (endAt s) p (along (λ p. ltb p (offsetIn s)) (endAt s) n p) (offsetIn s)
   fill zero p low high e = let here : offsetIn s ≡ p = omega arith in rw here none
@@ -140,17 +146,17 @@ module _ (s : List ℕ) where
       go true i e = i
       go false i e = (omega arith, omega arith, i)
 
-  timings-end : (n p : ℕ) → p ≤ 127 → (q : ℕ) × Row (λ p. p + 18) p (along (isTiming s) (λ p. p + 18) n p) q × (q ≤ 127)
-  timings-end zero p h = (p, none, h)
-  timings-end (suc n) p h = go (isTiming s p) refl (λ m. timings-end n (p + 18) (timing-ends s p m))
+  -- a walk that is long enough ends where there is no timing
+  timings-end : (n p : ℕ) → p ≤ 127 → 109 < p + 18 * n → Timings p (along (isTiming s) (λ p. p + 18) n p)
+  timings-end zero p h k = record { end = p; row = none; before-127 = h; no-more = rw (lt-leb (p + 18) 127 (omega arith)) }
+  timings-end (suc n) p h k = go (isTiming s p) refl (λ m. timings-end n (p + 18) (timing-ends s p m) (omega arith))
     where
       rest : List ℕ
       rest = along (isTiming s) (λ p. p + 18) n (p + 18)
 
-      go : (t : Bool) → isTiming s p ≡ t → (isTiming s p ≡ true → (q : ℕ) × Row (λ p. p + 18) (p + 18) rest q × (q ≤ 127))
-          → (q : ℕ) × Row (λ p. p + 18) p (cond t (p ∷ rest) []) q × (q ≤ 127)
-      go true m again = let r = again m in (r .0, one (r .1), r .2)
-      go false m again = (p, none, h)
+      go : (t : Bool) → isTiming s p ≡ t → (isTiming s p ≡ true → Timings (p + 18) rest) → Timings p (cond t (p ∷ rest) [])
+      go true m again = let r = again m in record { end = r .end; row = one (r .row); before-127 = r .before-127; no-more = r .no-more }
+      go false m again = record { end = p; row = none; before-127 = h; no-more = m }
 
 -- with the offset 0 there are no data blocks and no timings
 pub nothing-at-0 : (s : List ℕ) → offsetIn s ≡ 0 → (blocksIn s ≡ []) × (timingsIn s ≡ [])
@@ -164,12 +170,14 @@ module _ (s : List ℕ) (ok : ctaOf s .end ≡ Accepted) where
   offset : isOffset (offsetIn s) ≡ true
   offset = has-offset s (then-first _ _ (then-first _ _ passed))
 
+  from-4 : 0 < offsetIn s → 4 ≤ offsetIn s
+  from-4 h = ⊎-elim (λ z. absurd (omega arith)) (λ b. b .0) (offset-is (offsetIn s) offset)
+
   -- with an offset, the data blocks fill the bytes from 4 up to it: each begins where the one before ended, and the last ends there
   pub tiles : 0 < offsetIn s → Row (endAt s) 4 (blocksIn s) (offsetIn s)
   unfolding blocksIn
   tiles h =
-      fill s 123 4 (⊎-elim (λ z. absurd (omega arith)) (λ b. b .0) (offset-is (offsetIn s) offset))
-      (omega (arith, offset-below (offsetIn s) offset)) (then-second (beforeBlocks s) _ (then-first _ _ passed))
+      fill s 123 4 (from-4 h) (omega (arith, offset-below (offsetIn s) offset)) (then-second (beforeBlocks s) _ (then-first _ _ passed))
 
   pub blocks-lie : (q : ℕ) × Row (endAt s) 4 (blocksIn s) q × (q ≤ 127)
   blocks-lie =
@@ -180,14 +188,10 @@ module _ (s : List ℕ) (ok : ctaOf s .end ≡ Accepted) where
   spans-inside =
       ⊎-elim (λ z. rw (nothing-at-0 s z .0) tt) (λ b. inside s (omega arith) (tiles (omega (arith, b .0)))) (offset-is (offsetIn s) offset)
 
-  -- the timings lie one behind the other from the offset on, and end before byte 127
-  pub timings-lie : (q : ℕ) × Row (λ p. p + 18) (offsetIn s) (timingsIn s) q × (q ≤ 127)
+  pub timings-lie : 0 < offsetIn s → Timings s (offsetIn s) (timingsIn s)
   unfolding timingsIn
-  timings-lie = go (eqb (offsetIn s) 0)
-    where
-      go : (t : Bool) → (q : ℕ) × Row (λ p. p + 18) (offsetIn s) (cond t [] (along (isTiming s) (λ p. p + 18) 6 (offsetIn s))) q × (q ≤ 127)
-      go true = (offsetIn s, none, offset-below (offsetIn s) offset)
-      go false = timings-end s 6 (offsetIn s) (offset-below (offsetIn s) offset)
+  timings-lie h =
+      rw (ne-eqb (offsetIn s) 0 (λ z. omega arith)) (timings-end s 6 (offsetIn s) (offset-below (offsetIn s) offset) (omega (arith, from-4 h)))
 
   -- each list has room in its array
   pub fits : Fits (plain s)

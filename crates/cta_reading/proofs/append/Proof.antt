@@ -1,6 +1,6 @@
 -- `cta_reading::append` meets its contract. The invariant: behind what was held, the first i bytes of the run are. Assumes nothing.
 use Prim.Native.Nat.{ℕ, _+_, _-_, _≤_}
-use mathlib.Core.Path.{_≡_, refl, sym, ap, _∙_}
+use mathlib.Core.Path.{_≡_, refl}
 use mathlib.Core.List.{List, [], _∷_, _++_, append-assoc}
 use native.Mathlib.Numerals.{add-one}
 use native.Mathlib.Nat.{add-zero}
@@ -9,7 +9,7 @@ use denote.Ref.{now}
 use lib.ListN.{length, take, getD}
 use lib.Seq.{take-suc, take-all}
 use borrow.Author.Needs.{needs}
-use Rattle.fixed.specs.Gather.{Holds, took, kept, renamed}
+use Rattle.fixed.specs.Gather.{Holds, took, kept}
 use Rattle.cta_reading.proofs.append.Statement.{statement}
 use Rattle.cta_reading.proofs.append.Tie as tie
 

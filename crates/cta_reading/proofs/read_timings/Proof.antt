@@ -1,7 +1,7 @@
 -- `cta_reading::read_timings` meets its contract. The invariant: the array and its count hold the timings passed. Assumes nothing.
-use Prim.Native.Nat.{ℕ, _+_, _-_, _*_, _≤_, _<_}
+use Prim.Native.Nat.{ℕ, _-_, _≤_, _<_}
 use mathlib.Core.Path.{_≡_, refl, sym, ap, _∙_}
-use mathlib.Core.Bool.{true, false}
+use mathlib.Core.Bool.{true}
 use mathlib.Core.List.{List}
 use native.Mathlib.Omega.{arith}
 use denote.Ref.{now}
@@ -11,7 +11,7 @@ use Rattle.bits.specs.Bytes.{part}
 use Rattle.standard_timing.specs.Timing.{timingIn}
 use Rattle.standard_timing.specs.declared.Timed.{Timed}
 use Rattle.cta_reading.specs.Cta.{offsetIn, isTiming, ctaOf}
-use Rattle.cta_reading.specs.Judged.{start, start-bounds, has-offset, timing-ends}
+use Rattle.cta_reading.specs.Judged.{start-bounds, has-offset, timing-ends}
 use Rattle.cta_reading.proofs.Laws.{Timings, no-timings, timing-room, timing-more, timing-over, timings-are}
 use Rattle.cta_reading.proofs.read_timings.Statement.{statement}
 use Rattle.cta_reading.proofs.read_timings.Tie as tie
