@@ -7,7 +7,7 @@
 #include "edid.h"
 
 typedef uint64_t side(const uint8_t *block, size_t length);
-extern side c_nothing, c_sum, every_field, every_standard_field, rust_parse, rust_record;
+extern side any_cta_entry, c_nothing, c_sum, every_field, every_standard_field, rust_parse, rust_record;
 
 static uint64_t refusal_number(const uint8_t *block, size_t length) { return edid_refusal_number(block, length); }
 static uint64_t bytes_taken(const uint8_t *block, size_t length) { return edid_bytes_taken(block, length); }
@@ -40,6 +40,7 @@ static const struct {
     {"nothing", c_nothing},
     {"every_field", every_field},
     {"every_standard_field", every_standard_field},
+    {"any_cta_entry", any_cta_entry},
     {"written_once", once},
     {"written_twice", twice},
     {"refusal_number", refusal_number},

@@ -23,9 +23,20 @@ def filled(size, longest=31):
     return data
 
 
+def videos(count):
+    """As many descriptor bytes, in as few data blocks as can be."""
+    return b"".join(data_block(2, noise(min(31, count - k))) for k in range(0, count, 31))
+
+
 def any_extension():
     """Data blocks and timings up to any byte; one in eight is spoiled."""
-    data = filled((below(124), below(24), 0)[below(3)], (31, 31, 3, 0)[below(4)])
+    kind = below(16)
+    if kind == 0:
+        data = videos(below(120) if below(4) else 119)
+    elif kind == 1:
+        data = b"".join(data_block(below(8), b"") for _ in range(below(124) if below(4) else 123))
+    else:
+        data = filled((below(124), below(24), 0)[below(3)], (31, 31, 3, 0)[below(4)])
     rest = b"".join(any_timing() for _ in range(below(7)))
     if below(2):
         rest += bytes([0, 0]) * below(10) + noise(below(40))
@@ -34,8 +45,9 @@ def any_extension():
 
 
 def spoiled(block):
-    """With a byte other than it was, its sum put right or not; another offset, first byte or length; or a timing with too long a porch."""
-    kind = below(8)
+    """With a byte other than it was, its sum put right or not; another offset, first byte or length; another last byte of the data blocks; or a timing
+    with too long a porch."""
+    kind = below(9)
     if kind == 0:
         return changed(block, below(128), below(256))
     if kind == 1:
@@ -47,4 +59,6 @@ def spoiled(block):
     if kind == 4 and 4 <= block[2] <= 109:
         at = block[2] + 18 * below(1 + (109 - block[2]) // 18)
         return summed(block[:at] + OVER + block[at + 18:])
+    if kind == 5 and 5 <= block[2] <= 127:
+        return summed(changed(block, block[2] - 1, below(256)))
     return summed(changed(block, 4 + below(123), below(256)))

@@ -56,6 +56,6 @@ unfoldable pub judgedLines : List ℕ → Cta → Verdict → List ℕ
 judgedLines s c Accepted = flat (text "accept\n" ∷ recordLines s c ∷ [])
 judgedLines s c (Refused f) = refuseLine f
 
--- of the block s
+-- of the extension s
 unfoldable pub listingOf : List ℕ → List ℕ
 listingOf s = judgedLines s (ctaOf s .cta) (ctaOf s .end)

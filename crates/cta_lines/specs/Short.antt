@@ -1,4 +1,4 @@
--- Every listing is shorter than a page: the data blocks of an accepted block have no more than 123 bytes, their headers among them.
+-- Every listing is shorter than a page: the data blocks of an extension that is accepted have no more than 123 bytes, their headers among them.
 use Prim.Native.Nat.{ℕ, suc, _+_, _*_, _≤_, min}
 use mathlib.Core.Bool.{Bool, true, false, cond}
 use mathlib.Core.List.{List, [], _∷_, _++_, flatMap}
@@ -20,9 +20,9 @@ use Rattle.standard_record.specs.declared.Verdict.the-variants.{Accepted, Refus
 use Rattle.cta_record.specs.Filler.{blankBlock}
 use Rattle.cta_record.specs.Seen.{holding}
 use Rattle.cta_record.specs.declared.DataBlock.{DataBlock}
-use Rattle.cta_reading.specs.Along.{Row, none, one}
+use Rattle.cta_reading.specs.Along.{Row, none, step}
 use Rattle.cta_reading.specs.Cta.{tagAt, endAt, dataBlock, blockAt, plain, ctaOf}
-use Rattle.cta_reading.specs.Promises.{blocks-lie, fits, record-is}
+use Rattle.cta_reading.specs.Promises.{blocks-row, fits, record-is}
 use Rattle.cta_lines.specs.Lines.{headLine, videoLine, runField, blockLine, blockLines, timingLine, timingLines, recordLines, judgedLines, listingOf}
 
 -- ---- data blocks
@@ -53,10 +53,10 @@ unfolding each
 each-block s [] = omega arith
 each-block s (b ∷ bs) = omega (arith, block-length s b, each-block s bs, length-append (blockLine s b) (each (blockLine s) bs))
 
-row-taken : (s : List ℕ) {p q : ℕ} {ps : List ℕ} → Row (endAt s) p ps q → taken (flatMap (blockAt s) ps) + p ≤ q
+row-taken : (s : List ℕ) {more : ℕ → Bool} {p q : ℕ} {ps : List ℕ} → Row more (endAt s) p ps q → taken (flatMap (blockAt s) ps) + p ≤ q
 unfolding flatMap
 row-taken s none = omega arith
-row-taken s {p} {q} {ps = x ∷ ps} (one r) = go (eqb (tagAt s p) 2) (row-taken s r)
+row-taken s {p = p} {q} {ps = x ∷ ps} (step m r) = go (eqb (tagAt s p) 2) (row-taken s r)
   where
     go : (t : Bool) → taken (flatMap (blockAt s) ps) + endAt s p ≤ q → taken (cond t [] (dataBlock s p ∷ []) ++ flatMap (blockAt s) ps) + p ≤ q
     go true h = omega arith
@@ -77,7 +77,7 @@ module _ (s : List ℕ) (ok : ctaOf s .end ≡ Accepted) where
       let bs = plain s .blocks in
       let all : min (count 123 bs) 123 ≡ count 123 bs = omega (arith, count-at-most 123 bs, fits s ok .blocks) in
       rw (all, shown-whole 123 blankBlock bs (fits s ok .blocks))
-      (omega (arith, each-block s bs, row-taken s (blocks-lie s ok .1), blocks-lie s ok .2))
+      (omega (arith, each-block s bs, row-taken s (blocks-row s ok .1), blocks-row s ok .2))
 
   record-length : length (recordLines s (holding (plain s))) ≤ 2487
   unfolding recordLines headLine videoLine timingLines flat

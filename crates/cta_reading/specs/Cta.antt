@@ -95,7 +95,7 @@ verdictOf s = beforeBlocks s then first (judgeBlock s) (blocksIn s) then first (
 
 -- ---- the reading
 
--- what the block says, in plain lists
+-- what the extension says, in plain lists
 abbrev pub plain : List ℕ → Seen
 plain s = record {
   revision = s ! 1;

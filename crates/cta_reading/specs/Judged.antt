@@ -1,4 +1,4 @@
--- What an accepted block has passed.
+-- What an extension has passed whose data blocks and timings are looked at.
 use Prim.Native.Nat.{ℕ, _+_, _≤_}
 use mathlib.Core.Path.{_≡_, refl}
 use mathlib.Core.Bool.{Bool, true, false, not, cond, _&&_, _||_}

@@ -12,7 +12,7 @@ use Rattle.bits.specs.Bytes.{_!_, part}
 use Rattle.standard_timing.specs.Timing.{timingIn}
 use Rattle.standard_timing.specs.declared.Timed.{Timed}
 use Rattle.standard_timing.specs.declared.Timed.the-variants.{Is, Over}
-use Rattle.cta_reading.specs.Along.{Row, none, one}
+use Rattle.cta_reading.specs.Along.{Row, none, step}
 use Rattle.cta_reading.specs.Cta.{tagAt, lengthAt, endAt, videoAt, dataBlock, blockAt, listed, timingAt}
 
 -- ---- of any parts
@@ -58,12 +58,17 @@ module _ (s : List ℕ) (p : ℕ) where
 
 -- ---- of a chain
 
+-- a walk never goes back
+pub row-up : {more : ℕ → Bool} {behind : ℕ → ℕ} → ((p : ℕ) → p ≤ behind p) → {p q : ℕ} {ps : List ℕ} → Row more behind p ps q → p ≤ q
+row-up up none = omega arith
+row-up up {p = p} (step m h) = omega (arith, up p, row-up up h)
+
 module _ (s : List ℕ) where
   -- each block takes a byte beside those that it shows
-  pub video-room : {p q : ℕ} {ps : List ℕ} → Row (endAt s) p ps q → length (flatMap (videoAt s) ps) + length ps + p ≤ q
+  video-room : {more : ℕ → Bool} {p q : ℕ} {ps : List ℕ} → Row more (endAt s) p ps q → length (flatMap (videoAt s) ps) + length ps + p ≤ q
   unfolding flatMap
   video-room none = omega arith
-  video-room {p} {ps = x ∷ ps} (one h) = omega (arith, video-room h, video-length s p, length-append (videoAt s p) (flatMap (videoAt s) ps))
+  video-room {p = p} {ps = x ∷ ps} (step m h) = omega (arith, video-room h, video-length s p, length-append (videoAt s p) (flatMap (videoAt s) ps))
 
   -- blocks from byte 4 up to byte q
   pub record Few (ps : List ℕ) (q : ℕ) : Type 0 where
@@ -71,15 +76,15 @@ module _ (s : List ℕ) where
     pub video : length (flatMap (videoAt s) ps) ≤ 119
     pub blocks : length (flatMap (blockAt s) ps) ≤ length ps
 
-  pub few : {ps : List ℕ} {q : ℕ} → Row (endAt s) 4 ps q → q ≤ 127 → Few ps q
-  few {ps} h l =
+  pub few : {more : ℕ → Bool} {ps : List ℕ} {q : ℕ} → Row more (endAt s) 4 ps q → q ≤ 127 → Few ps q
+  few {ps = ps} h l =
       record {
         all = omega (arith, video-room h);
         video = omega (arith, video-room h, flat-at-most (videoAt s) 31 (video-31 s) ps);
         blocks = omega (arith, flat-at-most (blockAt s) 1 (block-1 s) ps);
       }
 
--- timings
-pub spaced : {p q : ℕ} {ps : List ℕ} → Row (λ p. p + 18) p ps q → q ≡ p + 18 * length ps
+-- a place 18 bytes behind the one before
+pub spaced : {more : ℕ → Bool} {p q : ℕ} {ps : List ℕ} → Row more (λ p. p + 18) p ps q → q ≡ p + 18 * length ps
 spaced none = omega arith
-spaced (one h) = omega (arith, spaced h)
+spaced (step m h) = omega (arith, spaced h)

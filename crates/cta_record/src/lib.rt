@@ -28,7 +28,7 @@ pub struct CtaTimings {
     pub len: usize,
 }
 
-// `offset` is byte 2, where the timings begin; `support` is byte 3.
+// `offset` is byte 2, where the timings begin, or 0; `support` is byte 3.
 pub struct Cta {
     pub revision: u8,
     pub offset: u8,

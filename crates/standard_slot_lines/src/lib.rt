@@ -69,11 +69,11 @@ pub fn timing_fields(out: &mut [u8; 4096], at: usize, d: DetailedTiming) -> usiz
     sync(out, n, kind)
 }
 
-fn detailed_line(out: &mut [u8; 4096], at: usize, h: HeldTiming) -> usize
-    ensures { λ r. ⌜ page (now (out .exit)) r ≡ page (now (out .entry)) at ▷ lines.detailedLine h ⌝ }
+fn detailed_line(out: &mut [u8; 4096], at: usize, t: HeldTiming) -> usize
+    ensures { λ r. ⌜ page (now (out .exit)) r ≡ page (now (out .entry)) at ▷ lines.detailedLine t ⌝ }
 {
-    let mut n = timing_fields(out, at, h.timing);
-    n = page::field16(out, n, h.slot);
+    let mut n = timing_fields(out, at, t.timing);
+    n = page::field16(out, n, t.slot);
     page::newline(out, n)
 }
 
