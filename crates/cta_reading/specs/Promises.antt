@@ -21,26 +21,12 @@ use Rattle.standard_verdict.specs.Laws.{then-first, then-second, must-hold}
 use Rattle.cta_record.specs.Filler.{blank}
 use Rattle.cta_record.specs.Seen.{seen, holding, Fits, shows}
 use Rattle.cta_record.specs.declared.DataBlock.{DataBlock}
-use Rattle.cta_reading.specs.Along.{along, first, Row, none, step, clash, both, refused-at}
+use Rattle.cta_reading.specs.Along.{along, first, Row, none, step, clash, row-below, Stop, stop, walked}
 use Rattle.cta_reading.specs.Cta.{offsetIn, tagAt, endAt, blocksIn, judgeBlock, dataBlock, blockAt, isTiming, timingsIn, judged, judgeTiming, listed, timingAt, isOffset, beforeBlocks, verdictOf, plain, beside, ctaOf}
-use Rattle.cta_reading.specs.Judged.{offset-is, offset-below, timing-ends}
+use Rattle.cta_reading.specs.Judged.{BlocksUpTo, TimingsUpTo, Head, before-by, head-of, offset-is, offset-below, timing-ends}
 use Rattle.cta_reading.specs.Room.{few, flat-at-most, timing-1, spaced, row-up}
 
--- the data blocks, and the timings, up to p: each begins where the one before ended
-abbrev pub BlocksUpTo : List ℕ → List ℕ → ℕ → Type 0
-BlocksUpTo s ps p = Row (λ p. ltb p (offsetIn s)) (endAt s) 4 ps p
-
-abbrev pub TimingsUpTo : List ℕ → List ℕ → ℕ → Type 0
-TimingsUpTo s ps p = Row (isTiming s) (λ p. p + 18) (offsetIn s) ps p
-
 -- ---- how a reading can end
-
--- what is judged first holds
-pub record Head (s : List ℕ) : Type 0 where
-  pub size : length s ≡ 128
-  pub sum : byteSum s ≡ 0
-  pub tag : s ! 0 ≡ 0x02
-  pub offset : isOffset (offsetIn s) ≡ true
 
 -- each end with its reason
 pub data Ends (s : List ℕ) : Verdict → Type 0 where
@@ -63,76 +49,61 @@ end-is-verdict s = go (verdictOf s)
     go (Refused f) = refl
 
 module _ (s : List ℕ) where
+  offset-from-4 : isOffset (offsetIn s) ≡ true → 0 < offsetIn s → (4 ≤ offsetIn s) × (offsetIn s ≤ 127)
+  offset-from-4 o h = ⊎-elim (λ z. absurd (omega arith)) (λ b. b) (offset-is (offsetIn s) o)
+
   -- data blocks of which none is refused go on up to the offset
-  fill : (n p : ℕ) → p ≤ offsetIn s → offsetIn s ≤ p + n → first (judgeBlock s) (along (λ p. ltb p (offsetIn s)) (endAt s) n p) ≡ Accepted
-      → Row (λ p. ltb p (offsetIn s)) (endAt s) p (along (λ p. ltb p (offsetIn s)) (endAt s) n p) (offsetIn s)
-  fill zero p low high e = let here : offsetIn s ≡ p = omega arith in rw here none
-  fill (suc n) p low high e = go (ltb p (offsetIn s)) refl (λ h k. fill n (endAt s p) h (omega arith) k) e
-    where
-      rest : List ℕ
-      rest = along (λ p. ltb p (offsetIn s)) (endAt s) n (endAt s p)
-
-      go : (t : Bool) → ltb p (offsetIn s) ≡ t
-          → (endAt s p ≤ offsetIn s → first (judgeBlock s) rest ≡ Accepted → Row (λ p. ltb p (offsetIn s)) (endAt s) (endAt s p) rest (offsetIn s))
-          → first (judgeBlock s) (cond t (p ∷ rest) []) ≡ Accepted → Row (λ p. ltb p (offsetIn s)) (endAt s) p (cond t (p ∷ rest) []) (offsetIn s)
-      go true m again e =
-          step m (again (leb-true (endAt s p) (offsetIn s) (must-hold _ 13 p (then-first _ _ e))) (then-second (judgeBlock s p) (first (judgeBlock s) rest) e))
-      go false m again e = let here : offsetIn s ≡ p = omega (arith, ltb-false p (offsetIn s) m) in rw here none
-
   filled : isOffset (offsetIn s) ≡ true → 0 < offsetIn s → first (judgeBlock s) (blocksIn s) ≡ Accepted → BlocksUpTo s (blocksIn s) (offsetIn s)
   unfolding blocksIn
   filled o h e =
-      fill 123 4 (⊎-elim (λ z. absurd (omega arith)) (λ b. b .0) (offset-is (offsetIn s) o)) (omega (arith, offset-below (offsetIn s) o)) e
-
-  head-ends : (v w : Verdict) → (Head s → Ends s (v then w)) → Ends s (beforeBlocks s then v then w)
-  unfolding beforeBlocks
-  head-ends v w h = go (eqb (length s) 128) refl (eqb (byteSum s) 0) refl (eqb (s ! 0) 0x02) refl (isOffset (offsetIn s)) refl
-    where
-      go : (a : Bool) → eqb (length s) 128 ≡ a → (b : Bool) → eqb (byteSum s) 0 ≡ b → (c : Bool) → eqb (s ! 0) 0x02 ≡ c
-          → (d : Bool) → isOffset (offsetIn s) ≡ d → Ends s (must a 7 0 then must b 8 127 then must c 12 0 then must d 13 2 then v then w)
-      go false i b j c k d l = wrong-length (eqb-false _ _ i)
-      go true i false j c k d l = wrong-sum (eqb-true _ _ i) (eqb-false _ _ j)
-      go true i true j false k d l = wrong-tag (eqb-true _ _ i) (eqb-true _ _ j) (eqb-false _ _ k)
-      go true i true j true k false l = wrong-offset (eqb-true _ _ i) (eqb-true _ _ j) (eqb-true _ _ k) l
-      go true i true j true k true l = h (record { size = eqb-true _ _ i; sum = eqb-true _ _ j; tag = eqb-true _ _ k; offset = l })
+      let d = offset-from-4 o h in
+      let w = walked (λ p. ltb p (offsetIn s)) (endAt s) 123 4 in
+      let most = row-below (judgeBlock s) (offsetIn s) (λ p m j. leb-true (endAt s p) (offsetIn s) (must-hold _ 13 p j)) (d .0) (w .1) e in
+      let least : offsetIn s ≤ w .0 = ⊎-elim (ltb-false (w .0) (offsetIn s)) (λ l. omega (arith, few s (w .1) (omega arith) .all)) (w .2) in
+      let here : w .0 ≡ offsetIn s = omega arith in
+      subst (Row (λ p. ltb p (offsetIn s)) (endAt s) 4 _) here (w .1)
 
   block-ends : Head s → (f : Refusal) → first (judgeBlock s) (blocksIn s) ≡ Refused f → Ends s (Refused f)
   unfolding blocksIn
-  block-ends h f =
-      refused-at _ (endAt s) (judgeBlock s) 4 f (Ends s (Refused f)) (λ ps p row fair m e. here ps p row (ltb-true p (offsetIn s) m) (leb (endAt s p) (offsetIn s)) refl e)
-      123 [] 4 none refl
+  block-ends h f e = go (leb (endAt s (x .at)) (offsetIn s)) refl (x .refused)
     where
-      here : (ps : List ℕ) (p : ℕ) → BlocksUpTo s ps p → p < offsetIn s → (t : Bool) → leb (endAt s p) (offsetIn s) ≡ t → must t 13 p ≡ Refused f → Ends s (Refused f)
-      here ps p row m true l e = clash e
-      here ps p row m false l e = subst (Ends s) e (block-past ps p h row m (leb-false (endAt s p) (offsetIn s) l))
+      x : Stop (λ p. ltb p (offsetIn s)) (endAt s) (judgeBlock s) f 4
+      x = stop (judgeBlock s) (walked (λ p. ltb p (offsetIn s)) (endAt s) 123 4 .1) e
+
+      go : (t : Bool) → leb (endAt s (x .at)) (offsetIn s) ≡ t → must t 13 (x .at) ≡ Refused f → Ends s (Refused f)
+      go true l e = clash e
+      go false l e = subst (Ends s) e (block-past (x .before) (x .at) h (x .row) (ltb-true _ _ (x .more-at)) (leb-false _ _ l))
 
   timing-ends-it : Head s → (0 < offsetIn s → BlocksUpTo s (blocksIn s) (offsetIn s)) → (f : Refusal)
       → first (judgeTiming s) (timingsIn s) ≡ Refused f → Ends s (Refused f)
   unfolding timingsIn
   timing-ends-it h tiles f = go (eqb (offsetIn s) 0) refl
     where
-      here : 0 < offsetIn s → (ps : List ℕ) (p : ℕ) → TimingsUpTo s ps p → first (judgeTiming s) ps ≡ Accepted → isTiming s p ≡ true
-          → (t : Timed) → timingIn (part s p 18) ≡ t → judged p t ≡ Refused f → Ends s (Refused f)
-      here d ps p row fair m (Is t) i e = clash e
-      here d ps p row fair m Over i e = subst (Ends s) e (porch-too-long ps p h (tiles d) row fair m i)
+      here : 0 < offsetIn s → (x : Stop (isTiming s) (λ p. p + 18) (judgeTiming s) f (offsetIn s))
+          → (t : Timed) → timingIn (part s (x .at) 18) ≡ t → judged (x .at) t ≡ Refused f → Ends s (Refused f)
+      here d x (Is t) i e = clash e
+      here d x Over i e = subst (Ends s) e (porch-too-long (x .before) (x .at) h (tiles d) (x .row) (x .fair) (x .more-at) i)
 
       go : (t : Bool) → eqb (offsetIn s) 0 ≡ t → first (judgeTiming s) (cond t [] (along (isTiming s) (λ p. p + 18) 6 (offsetIn s))) ≡ Refused f → Ends s (Refused f)
       go true z e = clash e
       go false z e =
-          let d : 0 < offsetIn s = ⊎-elim (λ y. absurd (eqb-false (offsetIn s) 0 z y)) (λ b. omega (arith, b .0)) (offset-is (offsetIn s) (h .offset)) in
-          refused-at (isTiming s) (λ p. p + 18) (judgeTiming s) (offsetIn s) f (Ends s (Refused f))
-          (λ ps p row fair m. here d ps p row fair m (timingIn (part s p 18)) refl) 6 [] (offsetIn s) none refl e
+          let x = stop (judgeTiming s) (walked (isTiming s) (λ p. p + 18) 6 (offsetIn s) .1) e in
+          here (let z = eqb-false (offsetIn s) 0 z in omega arith) x (timingIn (part s (x .at) 18)) refl (x .refused)
 
   pub ends : Ends s (ctaOf s .end)
   ends =
       rw end-is-verdict
-      (head-ends (first (judgeBlock s) (blocksIn s)) (first (judgeTiming s) (timingsIn s))
-      (λ h. both (Ends s) (first (judgeBlock s) (blocksIn s)) (first (judgeTiming s) (timingsIn s)) (block-ends h)
-      (λ fair. go h (λ d. filled (h .offset) d fair) (first (judgeTiming s) (timingsIn s)) refl)))
+      (before-by s (λ v. Ends s (v then first (judgeBlock s) (blocksIn s) then first (judgeTiming s) (timingsIn s)))
+      wrong-length wrong-sum wrong-tag wrong-offset
+      (λ h. blocks h (first (judgeBlock s) (blocksIn s)) refl))
     where
-      go : Head s → (0 < offsetIn s → BlocksUpTo s (blocksIn s) (offsetIn s)) → (v : Verdict) → first (judgeTiming s) (timingsIn s) ≡ v → Ends s v
-      go h tiles Accepted e = accepted h
-      go h tiles (Refused f) e = timing-ends-it h tiles f e
+      timings : Head s → first (judgeBlock s) (blocksIn s) ≡ Accepted → (v : Verdict) → first (judgeTiming s) (timingsIn s) ≡ v → Ends s v
+      timings h e Accepted i = accepted h
+      timings h e (Refused f) i = timing-ends-it h (λ d. filled (h .offset) d e) f i
+
+      blocks : Head s → (v : Verdict) → first (judgeBlock s) (blocksIn s) ≡ v → Ends s (v then first (judgeTiming s) (timingsIn s))
+      blocks h Accepted e = timings h e (first (judgeTiming s) (timingsIn s)) refl
+      blocks h (Refused f) e = block-ends h f e
 
 -- a refusal's number and place
 abbrev pub Bounded : Verdict → Type 0
@@ -194,21 +165,6 @@ module _ (s : List ℕ) where
       go true i e = i
       go false i e = (omega arith, omega arith, i)
 
-  -- a walk that is long enough ends where no timing stands
-  last : (n p : ℕ) → p ≤ 127 → 109 < p + 18 * n
-      → (q : ℕ) × Row (isTiming s) (λ p. p + 18) p (along (isTiming s) (λ p. p + 18) n p) q × (q ≤ 127) × (isTiming s q ≡ false)
-  last zero p h k = (p, none, h, rw (lt-leb (p + 18) 127 (omega arith)))
-  last (suc n) p h k = go (isTiming s p) refl (λ m. last n (p + 18) (timing-ends s p m) (omega arith))
-    where
-      rest : List ℕ
-      rest = along (isTiming s) (λ p. p + 18) n (p + 18)
-
-      go : (t : Bool) → isTiming s p ≡ t
-          → (isTiming s p ≡ true → (q : ℕ) × Row (isTiming s) (λ p. p + 18) (p + 18) rest q × (q ≤ 127) × (isTiming s q ≡ false))
-          → (q : ℕ) × Row (isTiming s) (λ p. p + 18) p (cond t (p ∷ rest) []) q × (q ≤ 127) × (isTiming s q ≡ false)
-      go true m again = let r = again m in (r .0, step m (r .1), r .2, r .3)
-      go false m again = (p, none, h, m)
-
   each-listed : (ps : List ℕ) → first (judgeTiming s) ps ≡ Accepted → map Is (flatMap (timingAt s) ps) ≡ map (λ p. timingIn (part s p 18)) ps
   unfolding flatMap
   each-listed [] e = refl
@@ -224,17 +180,11 @@ module _ (s : List ℕ) (ok : ctaOf s .end ≡ Accepted) where
   passed : verdictOf s ≡ Accepted
   passed = sym (end-is-verdict s) ∙ ok
 
+  timings-fair : first (judgeTiming s) (timingsIn s) ≡ Accepted
+  timings-fair = then-second (beforeBlocks s then first (judgeBlock s) (blocksIn s)) _ passed
+
   pub head : Head s
-  head = go (subst (Ends s) ok (ends s)) refl
-    where
-      go : {v : Verdict} → Ends s v → v ≡ Accepted → Head s
-      go (wrong-length a) e = clash (sym e)
-      go (wrong-sum a b) e = clash (sym e)
-      go (wrong-tag a b c) e = clash (sym e)
-      go (wrong-offset a b c d) e = clash (sym e)
-      go (block-past ps p h row m l) e = clash (sym e)
-      go (porch-too-long ps p h b row fair m o) e = clash (sym e)
-      go (accepted h) e = h
+  head = head-of s (then-first _ _ (then-first _ _ passed))
 
   offset : (offsetIn s ≡ 0) ⊎ ((4 ≤ offsetIn s) × (offsetIn s ≤ 127))
   offset = offset-is (offsetIn s) (head .offset)
@@ -250,14 +200,20 @@ module _ (s : List ℕ) (ok : ctaOf s .end ≡ Accepted) where
 
   pub timings-lie : 0 < offsetIn s → AllTimings s (timingsIn s)
   unfolding timingsIn
-  timings-lie d =
-      let from-4 = ⊎-elim (λ z. absurd (omega arith)) (λ b. b .0) offset in
-      let r = last s 6 (offsetIn s) (offset-below (offsetIn s) (head .offset)) (omega (arith, from-4)) in
-      rw (ne-eqb (offsetIn s) 0 (λ z. omega arith)) (record { end = r .0; row = r .1; before-127 = r .2; no-more = r .3 })
+  timings-lie h =
+      let d = offset-from-4 s (head .offset) h in
+      let w = walked (isTiming s) (λ p. p + 18) 6 (offsetIn s) in
+      rw (ne-eqb (offsetIn s) 0 (λ z. omega arith))
+      (record {
+        end = w .0;
+        row = w .1;
+        before-127 = row-below (judgeTiming s) 127 (λ p m j. timing-ends s p m) (d .1) (w .1) (rw (ne-eqb (offsetIn s) 0 (λ z. omega arith)) at timings-fair);
+        no-more = ⊎-elim (λ m. m) (λ l. rw (lt-leb (w .0 + 18) 127 (omega (arith, d .0, spaced (w .1))))) (w .2);
+      })
 
   -- each of them is listed
   pub timings-listed : map Is (plain s .timings) ≡ map (λ p. timingIn (part s p 18)) (timingsIn s)
-  timings-listed = each-listed s (timingsIn s) (then-second (beforeBlocks s then first (judgeBlock s) (blocksIn s)) _ passed)
+  timings-listed = each-listed s (timingsIn s) timings-fair
 
   -- each list has room in its array
   pub fits : Fits (plain s)

@@ -11,7 +11,7 @@ use Rattle.bits.specs.Bytes.{part}
 use Rattle.fixed.specs.Gather.{took, kept}
 use Rattle.standard_record.specs.declared.Verdict.the-variants.{Accepted}
 use Rattle.cta_reading.specs.Cta.{offsetIn, tagAt, lengthAt, videoAt, beforeBlocks, ctaOf}
-use Rattle.cta_reading.specs.Judged.{offset-below, has-offset}
+use Rattle.cta_reading.specs.Judged.{below-128}
 use Rattle.cta_reading.proofs.Laws.{Blocks, no-blocks, block-room, block-past, video-fits, block-more, blocks-are}
 use Rattle.cta_reading.proofs.read_blocks.Statement.{statement}
 use Rattle.cta_reading.proofs.read_blocks.Tie as tie
@@ -23,12 +23,12 @@ abbrev μ-loop : tie.MeasureT-loop
 μ-loop s offset video₀ shown₀ blocks₀ listed₀ p₀ video shown blocks listed p = 127 - p
 
 cast-offset : tie.Need-cast-offset Inv-loop μ-loop
-cast-offset c = let b = c .before .before in omega (arith, offset-below (offsetIn (now (b .args .s))) (has-offset _ (b .pre .1)))
+cast-offset c = let b = c .before .before in omega (arith, below-128 (now (b .args .s)) (b .pre .1))
 
 loop-holds : tie.Need-loop-holds Inv-loop μ-loop
 loop-holds c =
     let b = c .before .before in
-    (search needs, offset-below _ (has-offset _ (b .pre .1)), search needs, no-blocks _ (record { are = refl; many = refl }) (record { are = refl; many = refl }))
+    (search needs, below-128 _ (b .pre .1), search needs, no-blocks _ (record { are = refl; many = refl }) (record { are = refl; many = refl }))
 
 -- the block, the data block that is looked at, and what the blocks before it say
 module _ (c : tie.After-digits2 Inv-loop μ-loop) where
@@ -103,7 +103,7 @@ read-timings-requires : tie.Need-read-timings-requires Inv-loop μ-loop
 read-timings-requires c κs =
     let l = c .before in
     let given = l .before .before .before .pre in
-    blocks-are (given .0) (given .1) (l .loop .inv .3) (omega arith)
+    blocks-are (given .0) (given .1) (l .loop .inv .3) (l .loop .inv .0) (omega arith)
 
 pub read-blocks-spec : {M : Type 1} → statement M
 read-blocks-spec =

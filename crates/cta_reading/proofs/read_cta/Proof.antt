@@ -2,12 +2,12 @@
 use mathlib.Core.Path.{sym, _∙_}
 use borrow.Author.Needs.{needs}
 use Rattle.cta_reading.specs.Cta.{ctaOf}
-use Rattle.cta_reading.specs.Judged.{has-128}
+use Rattle.cta_reading.specs.Judged.{head-of}
 use Rattle.cta_reading.proofs.read_cta.Statement.{statement}
 use Rattle.cta_reading.proofs.read_cta.Tie as tie
 
 read-blocks-requires : tie.Need-read-blocks-requires
-read-blocks-requires c κs = let e = sym (c .before .before .before-blocks .ensures) ∙ c .enum-told .given .1 in (has-128 _ e, e)
+read-blocks-requires c κs = let e = sym (c .before .before .before-blocks .ensures) ∙ c .enum-told .given .1 in (head-of _ e .size, e)
 
 returns : tie.Need-returns
 unfolding ctaOf

@@ -11,7 +11,7 @@ use Rattle.bits.specs.Bytes.{part}
 use Rattle.standard_timing.specs.Timing.{timingIn}
 use Rattle.standard_timing.specs.declared.Timed.{Timed}
 use Rattle.cta_reading.specs.Cta.{offsetIn, isTiming, ctaOf}
-use Rattle.cta_reading.specs.Judged.{start-bounds, has-offset, timing-ends}
+use Rattle.cta_reading.specs.Judged.{start-bounds, head-of, timing-ends}
 use Rattle.cta_reading.proofs.Laws.{Timings, no-timings, timing-room, timing-more, timing-over, timings-are}
 use Rattle.cta_reading.proofs.read_timings.Statement.{statement}
 use Rattle.cta_reading.proofs.read_timings.Tie as tie
@@ -25,7 +25,7 @@ abbrev μ-loop : tie.MeasureT-loop
 loop-holds : tie.Need-loop-holds Inv-loop μ-loop
 loop-holds c =
     let given = c .before .before .before .pre in
-    rw (c .first-timing .ensures) ((start-bounds (offsetIn (now (c .before .before .before .args .s))) (has-offset _ (given .before))) .1, no-timings _ (record { are = refl; many = refl }))
+    rw (c .first-timing .ensures) ((start-bounds (offsetIn (now (c .before .before .before .args .s))) (head-of _ (given .before) .offset)) .1, no-timings _ (record { are = refl; many = refl }))
 
 -- the block, and that a timing begins where the walk has come to
 module _ (c : tie.After-timing-in Inv-loop μ-loop) where
@@ -75,7 +75,7 @@ unfolding ctaOf
 returns-2 c =
     let l = c .before .before .before .before in
     let given = l .before .before .before .before .pre in
-    let all = timings-are (l .loop .inv .1) (sym (c .before .before .before .is-timing .ensures) ∙ c .before .before .if1 .left) in
+    let all = timings-are (given .before) (l .loop .inv .1) (l .loop .inv .0) (sym (c .before .before .before .is-timing .ensures) ∙ c .before .before .if1 .left) in
     rw (given .before, given .fair, given .video, given .blocks, all .fair, all .held .are, all .held .many)
 
 pub read-timings-spec : {M : Type 1} → statement M
