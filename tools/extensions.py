@@ -34,7 +34,8 @@ def any_extension():
     if kind == 0:
         data = videos(below(120) if below(4) else 119)
     elif kind == 1:
-        data = b"".join(data_block(below(8), b"") for _ in range(below(124) if below(4) else 123))
+        tags = below(8), below(8)
+        data = b"".join(data_block(tags[below(2)], b"") for _ in range(below(124) if below(4) else 123))
     else:
         data = filled((below(124), below(24), 0)[below(3)], (31, 31, 3, 0)[below(4)])
     rest = b"".join(any_timing() for _ in range(below(7)))

@@ -37,7 +37,7 @@ pub data Ends (s : List ℕ) : Verdict → Type 0 where
   block-past : (ps : List ℕ) (p : ℕ) → Head s → BlocksUpTo s ps p → p < offsetIn s → offsetIn s < endAt s p → Ends s (refusedAt 13 p)
   porch-too-long : (ps : List ℕ) (p : ℕ) → Head s → BlocksUpTo s (blocksIn s) (offsetIn s)
       → TimingsUpTo s ps p → first (judgeTiming s) ps ≡ Accepted → isTiming s p ≡ true → timingIn (part s p 18) ≡ Over → Ends s (refusedAt 6 p)
-  accepted : Head s → Ends s Accepted
+  accepted : Head s → (0 < offsetIn s → BlocksUpTo s (blocksIn s) (offsetIn s)) → first (judgeTiming s) (timingsIn s) ≡ Accepted → Ends s Accepted
 
 -- the end is the verdict
 pub end-is-verdict : (s : List ℕ) → ctaOf s .end ≡ verdictOf s
@@ -98,7 +98,7 @@ module _ (s : List ℕ) where
       (λ h. blocks h (first (judgeBlock s) (blocksIn s)) refl))
     where
       timings : Head s → first (judgeBlock s) (blocksIn s) ≡ Accepted → (v : Verdict) → first (judgeTiming s) (timingsIn s) ≡ v → Ends s v
-      timings h e Accepted i = accepted h
+      timings h e Accepted i = accepted h (λ d. filled (h .offset) d e) i
       timings h e (Refused f) i = timing-ends-it h (λ d. filled (h .offset) d e) f i
 
       blocks : Head s → (v : Verdict) → first (judgeBlock s) (blocksIn s) ≡ v → Ends s (v then first (judgeTiming s) (timingsIn s))
@@ -117,7 +117,7 @@ bounded-end (wrong-tag a b c) = (omega arith, omega arith, omega arith)
 bounded-end (wrong-offset a b c d) = (omega arith, omega arith, omega arith)
 bounded-end {s} (block-past ps p h row m l) = (omega arith, omega arith, omega (arith, offset-below (offsetIn s) (h .offset)))
 bounded-end {s} (porch-too-long ps p h b row fair m o) = (omega arith, omega arith, omega (arith, timing-ends s p m))
-bounded-end (accepted h) = tt
+bounded-end (accepted h b t) = tt
 
 pub bounded : (s : List ℕ) → Bounded (ctaOf s .end)
 bounded s = bounded-end (ends s)
