@@ -1,5 +1,5 @@
 -- What the reading promises of every extension s: how it can end, and what holds of one that is accepted.
-use Prim.Native.Nat.{ℕ, zero, suc, _+_, _*_, _≤_, _<_}
+use Prim.Native.Nat.{ℕ, _+_, _≤_, _<_}
 use mathlib.Core.Path.{_≡_, refl, sym, ap, _∙_, subst}
 use mathlib.Core.Bool.{Bool, true, false, cond}
 use mathlib.Core.List.{List, [], _∷_, _++_, map, flatMap}
@@ -7,7 +7,7 @@ use mathlib.Core.Logic.{_⊎_, ⊎-elim}
 use native.Mathlib.Omega.{arith}
 use lib.Dec.{eqb, ltb, leb}
 use lib.ListN.{length}
-use borrow.Author.Tests.{eqb-true, eqb-false, ltb-true, ltb-false, leb-true, leb-false, lt-leb, eq-eqb, ne-eqb}
+use borrow.Author.Tests.{eqb-false, ltb-true, ltb-false, leb-true, leb-false, lt-leb, eq-eqb, ne-eqb}
 use Rattle.bits.specs.Bytes.{_!_, part}
 use Rattle.sums.specs.Sum.{byteSum}
 use Rattle.steps.specs.declared.Refusal.{Refusal}
