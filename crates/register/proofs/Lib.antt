@@ -1,0 +1,2 @@
+-- What the proofs of `register` share.
+pub mod Laws

@@ -1,0 +1,2 @@
+-- The laws that the proofs of `register_file` cite.
+pub mod Laws

@@ -1,0 +1,4 @@
+-- A register's file, and what holds of it.
+pub mod File
+pub mod Laws
+pub mod Promises
