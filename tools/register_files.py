@@ -1,14 +1,15 @@
 #!/usr/bin/env python3
-"""Runs register_up and register_down on files, and holds what they write to the two layouts as `struct` has them: tools/test-register WORD ..,
-with the words that run a program for x86-64 here.
+"""Runs register_up and register_down on files, and holds what they write to the two layouts as `struct` has them. tools/test-register calls it, with the
+words that run a program for x86-64 here.
 
-Files of 0, 1, 2 and 1,000 records, and around the ends of a batch; a refused record first, in the middle and last; three records cut at every length;
-each byte of a record changed; files that arrive in pieces; files made at random; a million records up and down again. Then inputs that cannot be read
-and outputs that cannot be written: what is told of them is README's, "A register's file".
+Files of 0, 1, 2 and 1,000 records, and around the ends of a batch; a refused record first, in the middle and last; three records cut at every length; each
+byte of a record changed, and two at once; files that arrive in pieces and files made at random; a million records up and down again, with a refused one
+behind them, in little memory. Then writes that are cut short, and inputs and outputs that fail: what is told of them is README's, "A register's file".
 Exit status: 0 all is as it should be, 1 something is not.
 """
 import ctypes
 import fcntl
+import itertools
 import mmap
 import os
 import random
@@ -20,13 +21,15 @@ import sys
 import tempfile
 import termios
 import threading
+import time
 
 ROOT = os.path.dirname(os.path.dirname(os.path.abspath(__file__)))
 SHORT = struct.Struct("<I4s128s")
 LONG = struct.Struct("<IB3s128s128s")
 BATCH = 248  # records that the programs take at a time: files end around it
+EMULATED = "qemu" in sys.argv[1]
 dice = random.Random(9)
-ran = 0
+held = 0
 
 
 def up(record):
@@ -66,19 +69,14 @@ def command(program):
 
 
 def same(what, got, wanted):
-    global ran
-    ran += 1
+    global held
+    held += 1
     if got != wanted:
-        sys.exit(f"test-register: {what}: got {short(got)}, not {short(wanted)}")
+        sys.exit(f"test-register: {what}: got {brief(got)}, not {brief(wanted)}")
 
 
-def short(answer):
+def brief(answer):
     return tuple(part if not isinstance(part, bytes) or len(part) < 80 else f"{len(part)} bytes" for part in answer)
-
-
-def check(program, file, what):
-    got = subprocess.run(command(program), input=file, capture_output=True)
-    same(f"{program}, {what}", (got.returncode, got.stdout, got.stderr), (0, *expected(program, file)))
 
 
 def record(program, count=0):
@@ -91,6 +89,14 @@ def record(program, count=0):
 
 def records(program, n):
     return [record(program) for _ in range(n)]
+
+
+# ---- files that are read and written
+
+
+def check(program, file, what):
+    got = subprocess.run(command(program), input=file, capture_output=True)
+    same(f"{program}, {what}", (got.returncode, got.stdout, got.stderr), (0, *expected(program, file)))
 
 
 def whole_files(program):
@@ -110,15 +116,26 @@ def cut_files(program):
         check(program, file[:n], f"cut at {n}")
 
 
+def changed(program, count, changes, index):
+    file = records(program, 3)
+    one = bytearray(record(program, count))
+    for at, byte in changes:
+        one[at] = byte
+    file[index] = bytes(one)
+    check(program, b"".join(file), f"bytes {changes}, the count was {count}")
+
+
 def changed_bytes(program):
+    size = WAYS[program][1]
+    zeros = range(4, 8) if program == "register_up" else (4, 5, 7, 136, 200, 263)
     for count in (0, 1) if program == "register_down" else (0,):
-        for at in range(WAYS[program][1]):
+        for at in range(size):
             for byte in (0, 1, 0x80, 0xFF):
-                file = records(program, 3)
-                changed = bytearray(record(program, count))
-                changed[at] = byte
-                file[at % 3] = bytes(changed)
-                check(program, b"".join(file), f"byte {at} is {byte}, the count was {count}")
+                changed(program, count, [(at, byte)], at % 3)
+        for one, two in itertools.combinations(zeros, 2):
+            for byte in (1, 2, 0x80, 0xFF):
+                changed(program, count, [(one, byte), (two, byte)], one % 3)
+                changed(program, count, [(one, byte), (two, 256 - byte)], two % 3)
 
 
 def random_files(program):
@@ -130,30 +147,85 @@ def random_files(program):
         check(program, b"".join(file) + dice.randbytes(dice.choice((0, 0, 0, 1, 135))), f"file {turn} made at random")
 
 
-def in_pieces(program):
+def in_pieces(program, file, sizes, what):
     """Each piece is taken by a read of its own: the next one comes when the pipe is empty."""
-    file = b"".join(records(program, 300)) + dice.randbytes(dice.choice((0, 5)))
     child = subprocess.Popen(command(program), stdin=subprocess.PIPE, stdout=subprocess.PIPE, stderr=subprocess.PIPE)
 
     def feed():
         at = 0
-        while at < len(file):
-            n = dice.choice((1, 7, 135, 136, 137, 264, 1000, 4096))
-            os.write(child.stdin.fileno(), file[at : at + n])
-            at += n
-            while struct.unpack("i", fcntl.ioctl(child.stdin, termios.FIONREAD, b"\0\0\0\0"))[0]:
-                pass
-        child.stdin.close()
+        try:
+            while at < len(file):
+                n = next(sizes)
+                os.write(child.stdin.fileno(), file[at : at + n])
+                at += n
+                while child.poll() is None and struct.unpack("i", fcntl.ioctl(child.stdin, termios.FIONREAD, b"\0\0\0\0"))[0]:
+                    time.sleep(0)
+            child.stdin.close()
+        except BrokenPipeError:  # it has stopped at a refused record
+            pass
 
     feeder = threading.Thread(target=feed)
     feeder.start()
     out = child.stdout.read()
     feeder.join()
-    same(f"{program}, in pieces", (child.wait(), out, child.stderr.read()), (0, *expected(program, file)))
+    same(f"{program}, {what}", (child.wait(), out, child.stderr.read()), (0, *expected(program, file)))
+
+
+def all_in_pieces(program):
+    size = WAYS[program][1]
+    any_size = iter(lambda: dice.choice((1, 7, 135, 136, 137, 263, 264, 265, 1000, 4096)), None)
+    for n in (BATCH, 300):
+        good = records(program, n)
+        in_pieces(program, b"".join(good), itertools.repeat(size), f"{n} records in pieces of one")
+        in_pieces(program, b"".join(good), any_size, f"{n} records in pieces")
+        in_pieces(program, b"".join(good)[:-5], any_size, f"{n} records in pieces, cut short")
+        good[n - 2] = record(program, 1)
+        in_pieces(program, b"".join(good), any_size, f"{n} records in pieces, one refused")
+
+
+def a_million(folder):
+    """Up and down again; behind them one that is refused, which is told of once the others are written."""
+    name = os.path.join(folder, "million")
+    with open(name, "wb") as made:
+        for _ in range(1000):
+            made.write(b"".join(records("register_up", 1000)))
+        size = made.tell()
+        made.write(record("register_up", 1))
+    little = None if EMULATED else lambda: resource.setrlimit(resource.RLIMIT_AS, (32 << 20, 32 << 20))
+    with open(name, "rb") as stdin:
+        pipes = {"stdout": subprocess.PIPE, "stderr": subprocess.PIPE, "preexec_fn": little}
+        first = subprocess.Popen(command("register_up"), stdin=stdin, **pipes)
+        second = subprocess.Popen(command("register_down"), stdin=first.stdout, **pipes)
+        first.stdout.close()
+        cmp = subprocess.run(["cmp", "-n", str(size), "-", name], stdin=second.stdout)
+    got = (first.wait(), second.wait(), first.stderr.read(), second.stderr.read(), cmp.returncode)
+    same("a million records up and down", got, (0, 0, b"1000000 17\n", b"", 0))
+    os.remove(name)
+
+
+# ---- reads and writes that fail, or are cut short
+
+
+def stopped_write(program):
+    """A write to a full pipe that a stop interrupts has written a part: it is gone on with. The second batch fills the pipe; nothing is told of the
+    refused record in it before its others are written."""
+    file = b"".join(records(program, 2 * BATCH - 3)) + record(program, 1)
+    for turn in range(3):
+        child = subprocess.Popen(command(program), stdin=subprocess.PIPE, stdout=subprocess.PIPE, stderr=subprocess.PIPE)
+        feeder = threading.Thread(target=lambda: (child.stdin.write(file), child.stdin.close()))
+        feeder.start()
+        for _ in range(20):
+            time.sleep(0.005)
+            os.kill(child.pid, signal.SIGSTOP)
+            os.kill(child.pid, signal.SIGCONT)
+        waiting = struct.unpack("i", fcntl.ioctl(child.stderr, termios.FIONREAD, b"\0\0\0\0"))[0]
+        same(f"{program}, told before it is written", (waiting,), (0,))
+        out = child.stdout.read()
+        feeder.join()
+        same(f"{program}, stopped while it writes", (child.wait(), out, child.stderr.read()), (0, *expected(program, file)))
 
 
 def told(program, what, wanted, **how):
-    """Runs it where reading or writing fails, and looks at how it ends and what is told."""
     got = subprocess.run(command(program), stderr=subprocess.PIPE, **how)
     same(f"{program}, {what}", (got.returncode, got.stderr), wanted)
 
@@ -163,27 +235,32 @@ def failed_reads(program, folder):
     told(program, "a folder as input", (0, b"0 read failed\n"), stdin=fd, stdout=subprocess.DEVNULL)
     os.close(fd)
     told(program, "no input", (0, b"0 read failed\n"), stdout=subprocess.DEVNULL, preexec_fn=lambda: os.close(0))
-    try:
-        fd, file = mapped(records(program, 1000), 98304)
-    except OSError as error:
-        print(f"left out: an input that fails within a record, {error}", file=sys.stderr)
-        return
-    whole = len(file) // WAYS[program][1]
-    got = subprocess.run(command(program), stdin=fd, capture_output=True)
-    os.close(fd)
-    wanted = expected(program, file[: whole * WAYS[program][1]])[0]
-    same(f"{program}, an input that fails within a record", (got.returncode, got.stdout, got.stderr), (0, wanted, b"%d read failed\n" % whole))
+    size = WAYS[program][1]
+    for least in (24 << 12, 512 * size):  # within a record; with pages of 4,096 bytes between two, 512 records being a whole number of pages
+        refused = records(program, 1000)
+        refused[300] = record(program, 2)
+        for good in (records(program, 1000), refused):
+            try:
+                fd, file = mapped(b"".join(good), least)
+            except OSError as error:
+                print(f"left out: an input that fails in its midst, {error}", file=sys.stderr)
+                return
+            got = subprocess.run(command(program), stdin=fd, capture_output=True)
+            os.close(fd)
+            whole = len(file) // size
+            out, said = expected(program, file[: whole * size])
+            same(f"{program}, an input that fails after {len(file)}", (got.returncode, got.stdout, got.stderr), (0, out, said or b"%d read failed\n" % whole))
 
 
-def mapped(good, size):
-    """A descriptor from which as many bytes are read, up to a page, and then a read fails: this process's memory, where a page is missing."""
-    size = -(-size // mmap.PAGESIZE) * mmap.PAGESIZE
+def mapped(file, least):
+    """A descriptor from which so many bytes are read, up to a page, and then a read fails: this process's memory, where a page is missing."""
+    size = -(-least // mmap.PAGESIZE) * mmap.PAGESIZE
     libc = ctypes.CDLL(None, use_errno=True)
     libc.mmap.restype = ctypes.c_void_p
     libc.mmap.argtypes = [ctypes.c_void_p, ctypes.c_size_t, ctypes.c_int, ctypes.c_int, ctypes.c_int, ctypes.c_long]
     libc.munmap.argtypes = [ctypes.c_void_p, ctypes.c_size_t]
     start = libc.mmap(None, size + mmap.PAGESIZE, mmap.PROT_READ | mmap.PROT_WRITE, mmap.MAP_PRIVATE | mmap.MAP_ANONYMOUS, -1, 0)
-    file = b"".join(good)[:size]
+    file = file[:size]
     ctypes.memmove(start, file, size)
     if libc.munmap(start + size, mmap.PAGESIZE):
         raise OSError(ctypes.get_errno(), "munmap")
@@ -193,24 +270,29 @@ def mapped(good, size):
 
 
 def failed_writes(program, folder):
-    file = b"".join(records(program, 600))
-    name = os.path.join(folder, "input")
-    with open(name, "wb") as made:
-        made.write(file)
+    good = records(program, 600)
+    out, _ = expected(program, b"".join(good))
+    files = {"good": b"".join(good), "refused": b"".join(good) + record(program, 1), "empty": b""}
+    for name, file in files.items():
+        with open(os.path.join(folder, name), "wb") as made:
+            made.write(file)
 
-    def told_of(what, wanted, **how):
-        with open(name, "rb") as stdin:
+    def told_of(name, what, wanted, **how):
+        with open(os.path.join(folder, name), "rb") as stdin:
             told(program, what, wanted, stdin=stdin, **how)
 
     with open("/dev/full", "wb") as full:
-        told_of("a full disk", (0, b"0 write failed\n"), stdout=full)
-    told_of("no output", (0, b"0 write failed\nclose failed\n"), preexec_fn=lambda: os.close(1))
+        told_of("good", "a full disk", (0, b"0 write failed\n"), stdout=full)
+        with open(os.path.join(folder, "refused"), "rb") as stdin:  # there is nobody to tell
+            got = subprocess.run(command(program), stdin=stdin, stdout=subprocess.PIPE, stderr=full)
+        same(f"{program}, nothing can be told", (got.returncode, got.stdout), (0, out))
+    told_of("good", "no output", (0, b"0 write failed\nclose failed\n"), preexec_fn=lambda: os.close(1))
+    told_of("empty", "no output, and nothing to write", (0, b"close failed\n"), preexec_fn=lambda: os.close(1))
     reads, writes = os.pipe()
     os.close(reads)
-    told_of("a pipe that is closed", (-signal.SIGPIPE, b""), stdout=writes)
-    told_of("the same, its signal ignored", (0, b"0 write failed\n"), stdout=writes, restore_signals=False)
+    told_of("good", "a pipe that is closed", (-signal.SIGPIPE, b""), stdout=writes)
+    told_of("good", "the same, its signal ignored", (0, b"0 write failed\n"), stdout=writes, restore_signals=False)
     os.close(writes)
-    out, _ = expected(program, file)
     batch = len(out) // 600 * BATCH
 
     def small():
@@ -218,22 +300,9 @@ def failed_writes(program, folder):
         resource.setrlimit(resource.RLIMIT_FSIZE, (batch + 1000, batch + 1000))
 
     with open(os.path.join(folder, "output"), "w+b") as small_file:
-        told_of("a file that may not grow", (0, b"%d write failed\n" % BATCH), stdout=small_file, preexec_fn=small)
+        told_of("good", "a file that may not grow", (0, b"%d write failed\n" % BATCH), stdout=small_file, preexec_fn=small)
         small_file.seek(0)
         same(f"{program}, a file that may not grow", (small_file.read(),), (out[: batch + 1000],))
-
-
-def a_million(folder):
-    name = os.path.join(folder, "million")
-    with open(name, "wb") as made:
-        for _ in range(1000):
-            made.write(b"".join(records("register_up", 1000)))
-    with open(name, "rb") as stdin:
-        first = subprocess.Popen(command("register_up"), stdin=stdin, stdout=subprocess.PIPE)
-        second = subprocess.Popen(command("register_down"), stdin=first.stdout, stdout=subprocess.PIPE)
-        first.stdout.close()
-        cmp = subprocess.run(["cmp", "-", name], stdin=second.stdout)
-    same("a million records up and down", (first.wait(), second.wait(), cmp.returncode), (0, 0, 0))
 
 
 def main():
@@ -243,11 +312,12 @@ def main():
             cut_files(program)
             changed_bytes(program)
             random_files(program)
-            in_pieces(program)
+            all_in_pieces(program)
+            stopped_write(program)
             failed_reads(program, folder)
             failed_writes(program, folder)
         a_million(folder)
-    print(f"register_up and register_down: {ran:,} runs as they should be")
+    print(f"register_up and register_down: {held:,} answers as they should be")
 
 
 main()

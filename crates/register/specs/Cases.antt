@@ -3,7 +3,7 @@ use Prim.Native.Nat.{ℕ}
 use mathlib.Core.Path.{_≡_, refl}
 use mathlib.Core.List.{List, [], _∷_, _++_}
 use lib.ListN.{take, replicate, set}
-use Rattle.register.specs.Register.{zeros, short, Step, Refused, Record, stepUp, stepDown}
+use Rattle.register.specs.Register.{zeros, short, Step, Refused, Record, stepUp, stepDown, into}
 
 -- blocks of one byte over and over: what they hold is not judged
 abbrev pub base : List ℕ
@@ -61,3 +61,13 @@ Hold (c ∷ cs) = (c .computed ≡ c .expected) × Hold cs
 pub cases-hold : Hold cases
 unfolding cases
 cases-hold = (refl, (refl, (refl, (refl, (refl, (refl, (refl, (refl, (refl, (refl, (refl, (refl, (refl, (refl, (refl, (refl, (refl, (refl, (refl, tt)))))))))))))))))))
+
+-- the number and the output afterwards: judged by its length first, kept where it is refused, and the other record where it is not
+pub outputs-hold :
+    (into 264 old (stepUp (set old 4 1)) ≡ (15, old))
+    × (into 264 (new 2 extension) (stepUp (set old 4 1)) ≡ (17, new 2 extension))
+    × (into 264 (new 2 extension) (stepUp old) ≡ (0, new 0 (zeros 128)))
+    × (into 136 [] (stepDown (new 1 extension)) ≡ (15, []))
+    × (into 136 old (stepDown (new 1 extension)) ≡ (16, old))
+    × (into 136 extension (stepDown (new 0 (zeros 128))) ≡ (15, extension))
+outputs-hold = (refl, refl, refl, refl, refl, refl)

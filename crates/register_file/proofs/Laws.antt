@@ -8,9 +8,9 @@ use native.Mathlib.Omega.{arith}
 use borrow.Rule.Slice.PartMut.{midOf, putMid, take-put}
 use lib.ListN.{length, take, drop, length-append, length-drop, drop-of-length-le}
 use lib.Seq.{take-all, take-at, take-length, drop-drop, length-take-le}
-use borrow.Author.Tests.{eq-eqb, leb-true, leb-false}
+use borrow.Author.Tests.{leb-true, leb-false}
 use lib.Dec.{leb}
-use Rattle.register.specs.Register.{Refused, Record, written, into}
+use Rattle.register.specs.Register.{Refused, Record, into}
 use Rattle.register.specs.Promises.{zero-accepts, nonzero-refuses}
 use Rattle.register_file.specs.File.{stepOf, fromOf, toOf, Converted, nothing, before, converted}
 use Rattle.register_file.specs.Laws.{numbered, first, no-records, no-bytes, ahead}
@@ -77,13 +77,10 @@ module _ (way : Way) (s o t : List ℕ) (at next end to k i number : ℕ) (all :
   part-length : length (midOf end k o) ≡ toOf way
   part-length = length-take-le k (drop end o) (omega (arith, length-drop end o)) ∙ is-k ∙ is-to
 
-  answered : (number, t) ≡ written (midOf end k o) (stepOf way (midOf at (next - at) s))
-  answered = rw (eq-eqb (length (midOf end k o)) (toOf way) part-length) at step
-
   pub turn-stops : (number ≡ 0 → ⊥) → record { bytes = take end (putMid end k o t); count = i; number = number } ≡ all
   turn-stops h =
       ap (λ (w : List ℕ). record { bytes = w; count = i; number = number }) (take-put end k o t (omega arith))
-      ∙ sym (stops way s (take end o) at i (248 - i) (247 - i) next (omega arith) inside is-next number (nonzero-refuses (midOf end k o) t _ number h answered .0))
+      ∙ sym (stops way s (take end o) at i (248 - i) (247 - i) next (omega arith) inside is-next number (nonzero-refuses (toOf way) (midOf end k o) t _ number h step .1 part-length))
       ∙ so-far
 
   pub turn-goes-on : number ≡ 0 → length t ≡ k → ahead (take (end + to) (putMid end k o t)) (i + 1) (converted way (248 - (i + 1)) (drop next s)) ≡ all
@@ -93,5 +90,5 @@ module _ (way : Way) (s o t : List ℕ) (at next end to k i number : ℕ) (all :
       ∙ take-at (take end o ++ t) (drop k (drop end o)) (end + to) (omega (arith, length-append (take end o) t, length-take-le end o (omega arith))) in
       rw more
       (goes-on way s (take end o) at i (248 - i) (248 - (i + 1)) next (omega arith) inside is-next t
-      (zero-accepts (midOf end k o) t _ (numbered way (midOf at (next - at) s)) (rw z at answered))
+      (zero-accepts (toOf way) (midOf end k o) t _ (numbered way (midOf at (next - at) s)) (rw z at step) .1)
       ∙ so-far)

@@ -6,7 +6,7 @@ ghost use lib.ListN.{length, take};
 ghost use Rattle.register.specs.Register.{into};
 ghost use Rattle.register_file.specs.File.{stepOf, fromOf, toOf, converted};
 
-// The records of a batch: in their longer form they fill a buffer of 65,536 bytes.
+// The records of a batch: as many as a buffer of 65,536 bytes has room for in their longer form.
 const BATCH: usize = 248;
 
 // A proved loop has to end, and nothing says that the input does: it counts to a number of records that no file has.
@@ -123,19 +123,29 @@ fn fill(space: &mut [u8]) -> Filled
     }
 }
 
-// A line on standard error, the index of a record and what came of it, and no further batch.
-fn tell(index: u64, what: &[u8]) -> bool {
-    io::print_decimal(2, index);
-    io::write_all(2, what);
+// A line on standard error begins with the index of a record; where it stands.
+fn begin(line: &mut [u8; 4096], index: u64) -> usize {
+    let mut digits = [0u8; 20];
+    let n = io::decimal(index, &mut digits);
+    page::bytes(line, 0, &digits[..n])
+}
+
+// The line of a read or a write that failed, and no further batch.
+fn fail(index: u64, what: &[u8]) -> bool {
+    let mut line = io::buffer();
+    let n = begin(&mut line, index);
+    let end = page::bytes(&mut line, n, what);
+    io::write_all(2, frames::start(&line, end));
     false
 }
 
 // The line of a refused record.
 fn refuse(index: u64, number: u8) -> bool {
-    io::print_decimal(2, index);
-    io::write_all(2, b" ");
-    io::print_decimal(2, number as u64);
-    io::write_all(2, b"\n");
+    let mut line = io::buffer();
+    let n = begin(&mut line, index);
+    let m = page::field(&mut line, n, number as usize);
+    let end = page::newline(&mut line, m);
+    io::write_all(2, frames::start(&line, end));
     false
 }
 
@@ -151,7 +161,7 @@ fn end_of(came: Filled, from: usize) -> usize
     }
 }
 
-// Reads a batch, steps it and writes what it is now; whether to go on.
+// Reads a batch, steps it and writes what it is now; whether to go on. Where the write fails, the index told is that of the batch's first record.
 fn convert_batch(way: Way, index: u64, source: &mut [u8], output: &mut [u8]) -> bool
     requires { ⌜ (index < 9223372036854775808) × (length (now source) ≡ 65536) × (length (now output) ≡ 65536) ⌝ }
 {
@@ -162,14 +172,14 @@ fn convert_batch(way: Way, index: u64, source: &mut [u8], output: &mut [u8]) -> 
     let batch = step_all(way, &source[0..end], output);
     let written = batch.written;
     if !io::write_all(1, &output[0..written]) {
-        return tell(index, b" write failed\n");
+        return fail(index, b" write failed\n");
     }
     let next = index + batch.records as u64;
     if batch.number != 0 {
         return refuse(next, batch.number);
     }
     if came.failed {
-        return tell(next, b" read failed\n");
+        return fail(next, b" read failed\n");
     }
     came.count == size
 }
