@@ -1,5 +1,5 @@
 -- A register's file: its records one after the other, up to the first that is refused.
-use Prim.Native.Nat.{ℕ, zero, suc, _+_}
+use Prim.Native.Nat.{ℕ, zero, suc}
 use mathlib.Core.List.{List, [], _∷_, _++_}
 use lib.ListN.{take, drop}
 use Rattle.register.specs.Register.{Step, Refused, Record, stepUp, stepDown}
