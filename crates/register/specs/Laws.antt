@@ -54,14 +54,11 @@ panel-bytes s h n = rw (length-take-le 4 s n) at (same-bytes (take 4 s) (take-by
 -- ---- the layouts
 
 -- the byte at 4, then three
-pub four-are : (s : List ℕ) → 8 ≤ length s → part s 4 4 ≡ s ! 4 ∷ part s 5 3
+four-are : (s : List ℕ) → 8 ≤ length s → part s 4 4 ≡ s ! 4 ∷ part s 5 3
 four-are s n = ap (take 4) (drop-cons s 4 0 (omega arith))
 
-pub base-length : (s : List ℕ) → 136 ≤ length s → length (baseOf s) ≡ 128
-base-length s n = length-take-le 128 (drop 8 s) (omega (arith, length-drop 8 s))
-
-pub extension-length : (s : List ℕ) → length s ≡ 264 → length (part s 136 128) ≡ 128
-extension-length s n = length-take-le 128 (drop 136 s) (omega (arith, length-drop 136 s))
+pub part-length : (s : List ℕ) (k n : ℕ) → k + n ≤ length s → length (part s k n) ≡ n
+part-length s k n h = length-take-le n (drop k s) (omega (arith, length-drop k s))
 
 -- the first 136 bytes of a record of either length, the three bytes zero
 pub start : (s : List ℕ) → Bytes s → 136 ≤ length s → allZero (part s 5 3) ≡ true
@@ -71,7 +68,7 @@ start s b n z =
     ∙ ap (λ (t : List ℕ). t ++ baseOf s)
     (take-add 4 4 s
     ∙ ap₂ _++_ (sym (panel-bytes s b (omega arith)))
-    (four-are s (omega arith) ∙ ap (λ (t : List ℕ). s ! 4 ∷ t) (zeros-by (part s 5 3) 3 (length-take-le 3 (drop 5 s) (omega (arith, length-drop 5 s))) z)))
+    (four-are s (omega arith) ∙ ap (λ (t : List ℕ). s ! 4 ∷ t) (zeros-by (part s 5 3) 3 (part-length s 5 3 (omega arith)) z)))
 
 pub is-long : (s : List ℕ) → Bytes s → length s ≡ 264 → allZero (part s 5 3) ≡ true → s ≡ long (panelOf s) (s ! 4) (baseOf s) (part s 136 128)
 is-long s b n z = sym (take-all 264 s (omega arith)) ∙ take-add 136 128 s ∙ ap (λ (t : List ℕ). t ++ part s 136 128) (start s b (omega arith) z)

@@ -13,7 +13,7 @@ use lib.Seq.{take-all, take-at, drop-at, drop-cons}
 use Rattle.bits.specs.Bytes.{_!_, part}
 use Rattle.write_leaf.specs.Bytes.{Bytes}
 use Rattle.register.specs.Register.{zeros, short, long, panelOf, baseOf, Step, Refused, Record, must, allZero, stepUp, stepDown, written, into}
-use Rattle.register.specs.Laws.{zeros-by, same-number, panel-under, base-length, extension-length, starts-short, is-long}
+use Rattle.register.specs.Laws.{zeros-by, same-number, panel-under, part-length, starts-short, is-long}
 
 -- ---- the layouts, stepped
 
@@ -62,7 +62,7 @@ up-ends s b =
     (λ t.
     let n = eqb-true (length s) 136 t in
     by-test (UpEnd s) (allZero (part s 4 4)) 17 _ (λ f. not-zero-there n (not-zero s 4 4 (omega arith) f))
-    (λ z. accepted (panelOf s) (baseOf s) (panel-under s b (omega arith)) (base-length s (omega arith))
+    (λ z. accepted (panelOf s) (baseOf s) (panel-under s b (omega arith)) (part-length s 8 128 (omega arith))
     (sym (take-all 136 s (omega arith)) ∙ starts-short s b (omega arith) z)))
 
 pub data DownEnd (s : List ℕ) : Step → Type 0 where
@@ -85,13 +85,13 @@ down-ends s b =
     by-count : length s ≡ 264 → s ≡ long (panelOf s) (s ! 4) (baseOf s) (part s 136 128) → (s ! 4 ≡ 1) ⊎ (s ! 4 < 1)
         → DownEnd s (must (eqb (s ! 4) 1 || allZero (part s 136 128)) 17 (must (eqb (s ! 4) 0) 16 (Record (short (panelOf s) (baseOf s)))))
     by-count n laid (inl one) =
-        rw one (extended (panelOf s) (baseOf s) (part s 136 128) (panel-under s b (omega arith)) (base-length s (omega arith)) (extension-length s n) (rw one at laid))
+        rw one (extended (panelOf s) (baseOf s) (part s 136 128) (panel-under s b (omega arith)) (part-length s 8 128 (omega arith)) (part-length s 136 128 (omega arith)) (rw one at laid))
     by-count n laid (inr none) =
         let zero : s ! 4 ≡ 0 = omega arith in
         rw zero
         (by-test (DownEnd s) (allZero (part s 136 128)) 17 _ (λ f. uncounted n zero (not-zero s 136 128 (omega arith) f))
-        (λ z. accepted (panelOf s) (baseOf s) (panel-under s b (omega arith)) (base-length s (omega arith))
-        (rw (zero, zeros-by (part s 136 128) 128 (extension-length s n) z) at laid)))
+        (λ z. accepted (panelOf s) (baseOf s) (panel-under s b (omega arith)) (part-length s 8 128 (omega arith))
+        (rw (zero, zeros-by (part s 136 128) 128 (part-length s 136 128 (omega arith)) z) at laid)))
 
 -- ---- and no other end: each reason gives its end
 
@@ -129,11 +129,9 @@ down-exactly s b x = (λ e. subst (DownEnd s) e (down-ends s b), down-by s x)
 
 -- ---- there and back
 
-pub up-takes : (s t : List ℕ) → stepUp s ≡ Record t → length s ≡ 136
-up-takes s t = by-test (λ x. x ≡ Record t → length s ≡ 136) (eqb (length s) 136) 15 _ (λ f e. cc) (λ h e. eqb-true (length s) 136 h)
-
-pub down-takes : (s t : List ℕ) → stepDown s ≡ Record t → length s ≡ 264
-down-takes s t = by-test (λ x. x ≡ Record t → length s ≡ 264) (eqb (length s) 264) 15 _ (λ f e. cc) (λ h e. eqb-true (length s) 264 h)
+-- a step that gives a record was handed one of its length
+pub takes : (size : ℕ) (s t : List ℕ) (step : Step) → must (eqb (length s) size) 15 step ≡ Record t → length s ≡ size
+takes size s t step = by-test (λ x. x ≡ Record t → length s ≡ size) (eqb (length s) size) 15 step (λ f e. cc) (λ h e. eqb-true (length s) size h)
 
 pub up-then-down : (s t : List ℕ) → Bytes s → stepUp s ≡ Record t → stepDown t ≡ Record s
 up-then-down s t b e = back t (up-exactly s b (Record t) .0 e)

@@ -10,6 +10,7 @@ use lib.ListN.{length, take, drop, length-append, length-drop, drop-of-length-le
 use lib.Seq.{take-all, take-at, take-length, drop-drop, length-take-le}
 use borrow.Author.Tests.{leb-true, leb-false}
 use lib.Dec.{leb}
+use Rattle.register.specs.Laws.{part-length}
 use Rattle.register.specs.Register.{Refused, Record, into}
 use Rattle.register.specs.Promises.{zero-accepts, nonzero-refuses}
 use Rattle.register_file.specs.File.{stepOf, fromOf, toOf, Converted, nothing, before, converted}
@@ -74,13 +75,13 @@ module _ (way : Way) (s o t : List ℕ) (at next end to k i number : ℕ) (all :
     (is-to : to ≡ toOf way) (is-k : k ≡ to) (room : end + to ≤ length o) (inside : at < length s) (is-next : next ≡ min (at + fromOf way) (length s)) (few : i < 248)
     (step : (number, t) ≡ into (toOf way) (midOf end k o) (stepOf way (midOf at (next - at) s)))
     (so-far : ahead (take end o) i (converted way (248 - i) (drop at s)) ≡ all) where
-  part-length : length (midOf end k o) ≡ toOf way
-  part-length = length-take-le k (drop end o) (omega (arith, length-drop end o)) ∙ is-k ∙ is-to
+  its-length : length (midOf end k o) ≡ toOf way
+  its-length = part-length o end k (omega arith) ∙ is-k ∙ is-to
 
   pub turn-stops : (number ≡ 0 → ⊥) → record { bytes = take end (putMid end k o t); count = i; number = number } ≡ all
   turn-stops h =
       ap (λ (w : List ℕ). record { bytes = w; count = i; number = number }) (take-put end k o t (omega arith))
-      ∙ sym (stops way s (take end o) at i (248 - i) (247 - i) next (omega arith) inside is-next number (nonzero-refuses (toOf way) (midOf end k o) t _ number h step .1 part-length))
+      ∙ sym (stops way s (take end o) at i (248 - i) (247 - i) next (omega arith) inside is-next number (nonzero-refuses (toOf way) (midOf end k o) t _ number h step .1 its-length))
       ∙ so-far
 
   pub turn-goes-on : number ≡ 0 → length t ≡ k → ahead (take (end + to) (putMid end k o t)) (i + 1) (converted way (248 - (i + 1)) (drop next s)) ≡ all

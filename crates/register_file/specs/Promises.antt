@@ -9,7 +9,7 @@ use lib.Seq.{drop-nil, drop-drop, take-at, drop-at}
 use Rattle.write_leaf.specs.Bytes.{Bytes}
 use Rattle.write_leaf.specs.Again.{take-bytes, drop-bytes}
 use Rattle.register.specs.Register.{Step, Refused, Record}
-use Rattle.register.specs.Promises.{Numbered, up-then-down, down-then-up, up-takes, down-takes}
+use Rattle.register.specs.Promises.{Numbered, up-then-down, down-then-up, takes}
 use Rattle.register_file.specs.File.{other, stepOf, fromOf, Converted, before, converted}
 use Rattle.register_file.specs.Laws.{numbered, first, no-records, no-bytes, ahead, at-start}
 use Rattle.register_file.specs.declared.Way.{Way}
@@ -48,8 +48,8 @@ step-back Up = up-then-down
 step-back Down = down-then-up
 
 step-takes : (way : Way) (s t : List ℕ) → stepOf way s ≡ Record t → length s ≡ fromOf way
-step-takes Up = up-takes
-step-takes Down = down-takes
+step-takes Up s t = takes 136 s t _
+step-takes Down s t = takes 264 s t _
 
 some-bytes : (way : Way) → 0 < fromOf way
 some-bytes Up = omega arith

@@ -184,10 +184,9 @@ fn convert_batch(way: Way, index: u64, source: &mut [u8], output: &mut [u8]) -> 
     came.count == size
 }
 
-// The whole file. Nothing comes back, and no contract can say what is read and written. What shows only when the output is closed is told too.
-pub fn convert(way: Way)
-    ensures { λ r. ⌜ r ≡ tt ⌝ }
-{
+// The whole file. What is read and written no contract can say, and nothing comes back, so there is none. What shows only when the output is closed is
+// told too.
+pub fn convert(way: Way) {
     let mut source = io::large_buffer();
     let mut output = io::large_buffer();
     let mut index: u64 = 0;
