@@ -1,15 +1,19 @@
 -- Where a block is refused, and where the spans of one that is accepted lie.
 use Prim.Native.Nat.{ℕ, zero, suc, _+_, _≤_, _<_}
 use mathlib.Core.Path.{_≡_, refl, sym, _∙_, subst}
+use mathlib.Core.Bool.{Bool, true, false}
 use mathlib.Core.List.{List, map}
 use native.Mathlib.Omega.{arith}
+use lib.Dec.{eqb}
 use lib.ListN.{length}
+use borrow.Author.Tests.{eqb-true, eqb-false}
 use Rattle.bits.specs.Bytes.{part}
 use Rattle.steps.specs.declared.Refusal.{Refusal}
 use Rattle.standard_record.specs.Held.{held}
 use Rattle.standard_record.specs.declared.Verdict.{Verdict}
 use Rattle.standard_record.specs.declared.Verdict.the-variants.{Accepted, Refused}
-use Rattle.standard_verdict.specs.Laws.{then-first, has-128, Bounded, then-bounded, bounded-before}
+use Rattle.standard_verdict.specs.Verdict.{beforeSlots}
+use Rattle.standard_verdict.specs.Laws.{then-first, then-second, has-128, Bounded, then-bounded, bounded-before}
 use Rattle.standard_slots.specs.Said.{lists}
 use Rattle.standard_slots.specs.Each.{each}
 use Rattle.standard_slots.specs.Spans.{Sounds, sounds-append, sound-slot}
@@ -50,10 +54,26 @@ module _ (s : List ℕ) where
   pub bounded : (f : Refusal) → standardOf s .end ≡ Refused f → Bounded (Refused f)
   bounded f e = subst Bounded (sym (end-is-verdict s) ∙ e) (bounded-after 4 (omega arith))
 
-  -- an accepted block has 128 bytes
-  pub accepted-has-128 : standardOf s .end ≡ Accepted → length s ≡ 128
+  -- an accepted block is accepted before its slots, and in each of them
+  pub accepted-before : standardOf s .end ≡ Accepted → beforeSlots s ≡ Accepted
   unfolding judged
-  accepted-has-128 e = has-128 s (then-first _ _ (then-first _ _ (then-first _ _ (then-first _ _ (sym (end-is-verdict s) ∙ e)))))
+  accepted-before e = then-first _ _ (then-first _ _ (then-first _ _ (then-first _ _ (sym (end-is-verdict s) ∙ e))))
+
+  judged-each : (n i : ℕ) → i < n → judged s n ≡ Accepted → judge (saidIn s i) (start i) ≡ Accepted
+  unfolding judged
+  judged-each zero i h e = absurd (omega arith)
+  judged-each (suc n) i h e = go (eqb i n) refl (λ l. judged-each n i l (then-first (judged s n) (judge (saidIn s n) (start n)) e))
+    where
+      go : (z : Bool) → eqb i n ≡ z → (i < n → judge (saidIn s i) (start i) ≡ Accepted) → judge (saidIn s i) (start i) ≡ Accepted
+      go true p before = rw (eqb-true i n p) (then-second (judged s n) (judge (saidIn s n) (start n)) e)
+      go false p before = before (omega (arith, eqb-false i n p))
+
+  pub accepted-slot : standardOf s .end ≡ Accepted → (i : ℕ) → i < 4 → judge (saidIn s i) (start i) ≡ Accepted
+  accepted-slot e i h = judged-each 4 i h (sym (end-is-verdict s) ∙ e)
+
+  -- it has 128 bytes
+  pub accepted-has-128 : standardOf s .end ≡ Accepted → length s ≡ 128
+  accepted-has-128 e = has-128 s (accepted-before e)
 
   -- the spans of n slots end before byte 126
   sounds-after : length s ≡ 128 → (n : ℕ) → n ≤ 4 → Sounds s (descriptorsOf s n) 126

@@ -32,6 +32,17 @@ pub has-128 : (s : List ℕ) → beforeSlots s ≡ Accepted → length s ≡ 128
 unfolding beforeSlots
 has-128 s e = eqb-true _ _ (must-hold _ 7 0 (then-first _ _ (then-first _ _ (then-first _ _ e))))
 
+-- and the header, and version 1
+pub has-header : (s : List ℕ) → beforeSlots s ≡ Accepted → isHeader s ≡ true
+unfolding beforeSlots
+has-header s e =
+    must-hold (isHeader s) 2 0
+    (then-second (must (eqb (length s) 128) 7 0) (must (isHeader s) 2 0) (then-first _ (must (eqb (byteSum s) 0) 8 127) (then-first _ (must (eqb (s ! 18) 1) 9 18) e)))
+
+pub has-version : (s : List ℕ) → beforeSlots s ≡ Accepted → s ! 18 ≡ 1
+unfolding beforeSlots
+has-version s e = eqb-true _ _ (must-hold (eqb (s ! 18) 1) 9 18 (then-second (must (eqb (length s) 128) 7 0 then must (isHeader s) 2 0 then must (eqb (byteSum s) 0) 8 127) (must (eqb (s ! 18) 1) 9 18) e))
+
 -- ---- refused
 
 -- by a number of 2 to 9, at a byte of the block

@@ -1,31 +1,28 @@
 -- Where a block gives a record: what each slot takes of the record's lists is what the block's slot shows, and nothing is left.
 use Prim.Native.Nat.{ℕ, zero, suc, _+_, _-_, _<_}
 use mathlib.Core.Path.{_≡_, refl, sym, ap, _∙_}
-use mathlib.Core.Bool.{Bool, true, false}
 use mathlib.Core.List.{List, [], _∷_, _++_, map, cons≢nil}
 use native.Mathlib.Omega.{arith}
-use lib.Dec.{eqb, eqb·suc-zero}
+use lib.Dec.{eqb·suc-zero}
 use lib.ListN.{length, length-take, length-drop}
-use borrow.Author.Tests.{ne-eqb, eqb-true, eqb-false}
-use Rattle.bits.specs.Bytes.{_!_, part}
-use Rattle.sums.specs.Sum.{byteSum}
+use borrow.Author.Tests.{ne-eqb}
+use Rattle.bits.specs.Bytes.{part}
 use Rattle.standard_record.specs.Seen.{Seen, seen, shows as holds}
 use Rattle.standard_record.specs.Held.{heldPair, heldPoint, heldTiming, held}
 use Rattle.standard_record.specs.declared.StandardRecord.{StandardRecord}
 use Rattle.standard_record.specs.declared.DetailedTiming.{DetailedTiming}
 use Rattle.standard_record.specs.declared.Descriptor.{Descriptor}
 use Rattle.standard_record.specs.declared.Verdict.{Verdict}
-use Rattle.standard_record.specs.declared.Verdict.the-variants.{Accepted, Refused}
+use Rattle.standard_record.specs.declared.Verdict.the-variants.{Accepted}
 use Rattle.standard_timing.specs.Timing.{clockIn}
-use Rattle.standard_verdict.specs.Verdict.{must, _then_, isHeader, beforeSlots}
-use Rattle.standard_verdict.specs.Laws.{then-first}
+use Rattle.standard_verdict.specs.Laws.{has-header, has-version}
 use Rattle.standard_parts.specs.Structure.{structureOf}
 use Rattle.standard_parts.specs.declared.Structure.{Structure}
 use Rattle.standard_slots.specs.Said.{Said, refusal, nothing, timing, pairs, points, described, lists, said}
 use Rattle.standard_slots.specs.Few.{Few, few, pairs-at-most}
-use Rattle.standard_reading.specs.Slots.{start, structureIn, saidIn, judge, judged}
+use Rattle.standard_reading.specs.Slots.{start, structureIn, saidIn, judge}
 use Rattle.standard_reading.specs.Block.{eightIn, plain}
-use Rattle.standard_reading.specs.Judged.{end-is-verdict, accepted-has-128}
+use Rattle.standard_reading.specs.Judged.{accepted-before, accepted-slot, accepted-has-128}
 use Rattle.standard_reading.specs.Room.{fits, accepted}
 use Rattle.write_pairs.specs.Run.{run-own}
 use Rattle.write_pairs.specs.Pairs.{All, ReadFrom}
@@ -63,10 +60,6 @@ shown-later σ (suc i) t l h = rw (← said-later σ i t 0) h
 
 -- ---- an accepted block
 
-then-second : (v w : Verdict) → (v then w) ≡ Accepted → w ≡ Accepted
-then-second Accepted w e = e
-then-second (Refused f) w e = cc
-
 pub not-refused : (s : List ℕ) (x : Said) (at : ℕ) → judge x at ≡ Accepted → shows s x ≡ these (entriesOf s (lists x))
 not-refused s (refusal n) at e = cc
 not-refused s nothing at e = refl
@@ -75,16 +68,6 @@ not-refused s (pairs ps) at e = refl
 not-refused s (points ws) at e = refl
 not-refused s (described d) at e = refl
 
--- a verdict on the slots up to n is one on each of them
-judged-each : (b : List ℕ) (n i : ℕ) → i < n → judged b n ≡ Accepted → judge (saidIn b i) (start i) ≡ Accepted
-unfolding judged
-judged-each b zero i h e = absurd (omega arith)
-judged-each b (suc n) i h e = go (eqb i n) refl (λ l. judged-each b n i l (then-first (judged b n) (judge (saidIn b n) (start n)) e))
-  where
-    go : (z : Bool) → eqb i n ≡ z → (i < n → judge (saidIn b i) (start i) ≡ Accepted) → judge (saidIn b i) (start i) ≡ Accepted
-    go true p before = rw (eqb-true i n p) (then-second (judged b n) (judge (saidIn b n) (start n)) e)
-    go false p before = before (omega (arith, eqb-false i n p))
-
 pub all-split : {A : Type 0} (P : A → Type 0) (xs ys : List A) → All P (xs ++ ys) → All P xs × All P ys
 all-split P [] ys h = (tt, h)
 all-split P (x ∷ xs) ys h = let r = all-split P xs ys (h .1) in ((h .0, r .0), r .1)
@@ -92,14 +75,6 @@ all-split P (x ∷ xs) ys h = let r = all-split P xs ys (h .1) in ((h .0, r .0),
 map-empty : {A B : Type 0} (f : A → B) (xs : List A) → map f xs ≡ [] → xs ≡ []
 map-empty f [] e = refl
 map-empty f (x ∷ xs) e = absurd (cons≢nil e)
-
-passed : (size header sum version : Bool) → (must size 7 0 then must header 2 0 then must sum 8 127 then must version 9 18) ≡ Accepted
-    → (header ≡ true) × (version ≡ true)
-passed false b c d e = (cc, cc)
-passed true false c d e = (cc, cc)
-passed true true false d e = (cc, cc)
-passed true true true false e = (cc, cc)
-passed true true true true e = (refl, refl)
 
 -- ---- the record that a block gives
 
@@ -172,7 +147,7 @@ module _ (b : List ℕ) (r : StandardRecord) (lent : List ℕ) (g : Gives b r le
     shown-taken =
         let k : i + suc (3 - i) ≡ 4 = omega arith in
         sym (shown-in-block (structureIn b) b (start i) i)
-        ∙ not-refused b (saidIn b i) (start i) (judged-each b 4 i h (sym (end-is-verdict b) ∙ g .accepted))
+        ∙ not-refused b (saidIn b i) (start i) (accepted-slot b (g .accepted) i h)
         ∙ ap these (sym (taken-is lent b (saidIn b) few-in i (3 - i) (rest x i) (ahead-of i (suc (3 - i)) k)))
 
     pub slot-bytes : Bytes slot
@@ -195,14 +170,12 @@ module _ (b : List ℕ) (r : StandardRecord) (lent : List ℕ) (g : Gives b r le
   first-timing = let f = first-slot-timing _ _ _ (shown-taken 0 (omega arith)) in (f .0, ap (λ (l : Entries). l .timings) (f .1))
 
   pub front-reads : ReadsFront b (frontOf x)
-  unfolding judged beforeSlots
   front-reads =
-      let v = then-first _ _ (then-first _ _ (then-first _ _ (then-first _ _ (sym (end-is-verdict b) ∙ g .accepted)))) in
-      let p = passed (eqb (length b) 128) (isHeader b) (eqb (byteSum b) 0) (eqb (b ! 18) 1) v in
+      let v = accepted-before b (g .accepted) in
       let f = ap (λ (s : Shown). s .front) same in
       record {
-        header = p .0;
-        one = eqb-true (b ! 18) 1 (p .1);
+        header = has-header b v;
+        one = has-version b v;
         product = ap (λ (f : Front). f .product) f;
         version = ap (λ (f : Front). f .version) f;
         display = ap (λ (f : Front). f .display) f;
