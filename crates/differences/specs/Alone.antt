@@ -1,6 +1,6 @@
 -- No mark is superfluous: for each a block that has it alone, that both readings accept and read apart. antt computes them. And the specimen, which has
 -- no mark: what `Whole` asks of a block holds of some.
-use Prim.Native.Nat.{ℕ, _+_}
+use Prim.Native.Nat.{ℕ, _+_, _<_}
 use mathlib.Core.Path.{_≡_, refl, ap}
 use mathlib.Core.Bool.{Bool, true, false, cond, false≢true}
 use mathlib.Core.List.{List, [], _∷_, _++_}
@@ -16,6 +16,7 @@ use Rattle.timing.specs.Axis.{backPorch, acrossOf, downOf}
 use Rattle.tags.specs.Tags.{tagOf}
 use Rattle.crate_record.specs.Filler.{blank as crateBlank}
 use Rattle.crate_record.specs.Seen.{Seen as CrateSeen, seen}
+use Rattle.crate_record.specs.Single.{gammaOf as crateGammaOf}
 use Rattle.crate_record.specs.declared.EDID.{EDID}
 use Rattle.crate_head.specs.Head.{header, maker, date, product, version, inputOf as crateInputOf, input, sizeOf, gammaFrom as crateGammaFrom, dpmsOf, dpms, display, color, front}
 use Rattle.crate_text.specs.Text.{scan, padding, skip, span, text}
@@ -26,6 +27,7 @@ use Rattle.crate_detailed.specs.Detailed.{syncOf as crateSyncOf, fitted, axes, 
 use Rattle.crate_slots.specs.Slots.{later, slots}
 use Rattle.crate_reading.specs.Reading.{answer, parts, plain as cratePlain, reading}
 use Rattle.standard_record.specs.Seen.{seen as standardSeen}
+use Rattle.standard_record.specs.declared.Gamma.{Gamma}
 use Rattle.standard_record.specs.declared.Verdict.the-variants.{Accepted}
 use Rattle.standard_record.specs.Filler.{blank}
 use Rattle.standard_timing.specs.Timing.{timingIn}
@@ -39,13 +41,14 @@ use Rattle.standard_verdict.specs.Verdict.{beforeSlots}
 use Rattle.standard_slots.specs.Said.{pointAt, rangeIn, said}
 use Rattle.standard_reading.specs.Block.{standardOf, recordOf}
 use Rattle.standard_reading.specs.Slots.{judged}
-use Rattle.write_leaf.specs.Bytes.{Bytes}
+use Rattle.write_leaf.specs.Bytes.{Bytes, digit}
 use Rattle.write_leaf.specs.Again.{cons-bytes}
 use Rattle.marking.specs.Marks.{marksIn}
 use Rattle.marking.specs.declared.Marks.{Marks}
 use Rattle.demands.specs.Specimen.{specimen}
-use Rattle.differences.specs.Converted.{converted}
+use Rattle.differences.specs.Converted.{pointGamma, converted}
 use Rattle.differences.specs.Unmarked.{Block, Unmarked, Agree}
+use Rattle.differences.specs.Slots.{none-of}
 
 -- the marks of s are these, both readings accept it, and the records do not agree
 pub record Parting (s : List ℕ) (marks : Marks) : Type 0 where
@@ -55,7 +58,7 @@ pub record Parting (s : List ℕ) (marks : Marks) : Type 0 where
   pub bytes : ℕ
   pub answered : answer s ≡ got crate bytes
   pub accepted : standardOf s .end ≡ Accepted
-  pub apart : Agree (seen crate) (standardSeen (standardOf s .edid)) → ⊥
+  pub apart : Agree s (seen crate) (standardSeen (standardOf s .edid)) → ⊥
 
 -- ---- by computation
 
@@ -65,10 +68,10 @@ recordIn (got e n) = e
 recordIn (refused k n) = crateBlank
 
 -- where to look for the difference: a number of what a crate record shows
-pub record Exhibit : Type 0 where
-  pub marks : Marks
-  pub block : List ℕ
-  pub look : CrateSeen → ℕ
+record Exhibit : Type 0 where
+  marks : Marks
+  block : List ℕ
+  look : CrateSeen → ℕ
 
 abbrev crateShows : List ℕ → CrateSeen
 crateShows s = seen (recordIn (answer s))
@@ -128,23 +131,23 @@ ratioBlock = set (with 39 (0x00 ∷ []) 0x44) 19 0x02
 
 -- ---- the entries
 
-abbrev only : Bool → Bool → Bool → Bool → Bool → Marks
-only active dummy index gamma ratio = record { active = active; dummy = dummy; index = index; gamma = gamma; ratio = ratio }
+abbrev these : Bool → Bool → Bool → Bool → Bool → Marks
+these active dummy index gamma ratio = record { active = active; dummy = dummy; index = index; gamma = gamma; ratio = ratio }
 
 -- of the first entry, 0 where there is none
 abbrev first : {A : Type 0} → (A → ℕ) → List A → ℕ
 first f [] = 0
 first f (a ∷ rest) = f a
 
-unfoldable pub exhibits : List Exhibit
+unfoldable exhibits : List Exhibit
 exhibits =
-    record { marks = only true false false false false; block = activeBlock; look = λ x. length (x .detailed) } ∷
-    record { marks = only false true false false false; block = dummyBlock; look = λ x. x .extensions } ∷
-    record { marks = only false false true false false; block = indexBlock; look = λ x. first (λ p. p .index) (x .points) } ∷
-    record { marks = only false false false true false; block = gammaBlock; look = λ x. first (λ p. toBits binary32 (p .gamma)) (x .points) } ∷
-    record { marks = only false false false false true; block = ratioBlock; look = λ x. first (λ p. toBits binary32 (p .ratio)) (x .standard) } ∷ []
+    record { marks = these true false false false false; block = activeBlock; look = λ x. length (x .detailed) } ∷
+    record { marks = these false true false false false; block = dummyBlock; look = λ x. x .extensions } ∷
+    record { marks = these false false true false false; block = indexBlock; look = λ x. first (λ p. p .index) (x .points) } ∷
+    record { marks = these false false false true false; block = gammaBlock; look = λ x. first (λ p. toBits binary32 (p .gamma)) (x .points) } ∷
+    record { marks = these false false false false true; block = ratioBlock; look = λ x. first (λ p. toBits binary32 (p .ratio)) (x .standard) } ∷ []
 
-abbrev pub Each : (Exhibit → Type 0) → List Exhibit → Type 0
+abbrev Each : (Exhibit → Type 0) → List Exhibit → Type 0
 Each P [] = Unit {0}
 Each P (x ∷ xs) = P x × Each P xs
 
@@ -164,12 +167,42 @@ computed = (
   ),
 )
 
-parted : (xs : List Exhibit) → Each Computes xs → Each (λ x. Parting (x .block) (x .marks)) xs
-parted [] h = tt
-parted (x ∷ xs) h = (parting x (h .0), parted xs (h .1))
+-- ---- of each mark
 
-pub each-mark-parts : Each (λ x. Parting (x .block) (x .marks)) exhibits
-each-mark-parts = parted exhibits computed
+abbrev pub howMany : Marks → ℕ
+howMany m = digit (m .active) + digit (m .dummy) + digit (m .index) + digit (m .gamma) + digit (m .ratio)
+
+pub each-mark-parts : (m : Marks) → howMany m ≡ 1 → (s : List ℕ) × Parting s m
+unfolding exhibits
+each-mark-parts m = go (m .active) (m .dummy) (m .index) (m .gamma) (m .ratio)
+  where
+    alone : (x : Exhibit) → Computes x → (s : List ℕ) × Parting s (x .marks)
+    alone x c = (x .block, parting x c)
+
+    go : (active dummy index gamma ratio : Bool) → digit active + digit dummy + digit index + digit gamma + digit ratio ≡ 1
+        → (s : List ℕ) × Parting s (these active dummy index gamma ratio)
+    go true false false false false h = alone _ (computed .0)
+    go false true false false false h = alone _ (computed .1 .0)
+    go false false true false false h = alone _ (computed .1 .1 .0)
+    go false false false true false h = alone _ (computed .1 .1 .1 .0)
+    go false false false false true h = alone _ (computed .1 .1 .1 .1 .0)
+    go false false false false false h = absurd (omega arith)
+    go true true index gamma ratio h = absurd (omega arith)
+    go true false true gamma ratio h = absurd (omega arith)
+    go true false false true ratio h = absurd (omega arith)
+    go true false false false true h = absurd (omega arith)
+    go false true true gamma ratio h = absurd (omega arith)
+    go false true false true ratio h = absurd (omega arith)
+    go false true false false true h = absurd (omega arith)
+    go false false true true ratio h = absurd (omega arith)
+    go false false true false true h = absurd (omega arith)
+    go false false false true true h = absurd (omega arith)
+
+-- the gamma that stands for none is that of no byte
+pub never-that-gamma : (v : ℕ) → v < 256 → crateGammaOf v ≡ pointGamma Gamma.None → ⊥
+unfolding ofBits toBits ofInt add div
+never-that-gamma v h e =
+    eqb-false _ _ (none-of 256 (λ k. eqb (toBits binary32 (crateGammaOf k)) (toBits binary32 (pointGamma Gamma.None))) refl v h) (ap (toBits binary32) e)
 
 -- ---- no mark
 

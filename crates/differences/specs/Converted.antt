@@ -3,11 +3,13 @@
 use Prim.Native.Nat.{ℕ}
 use mathlib.Core.List.{map}
 use lib.Ieee.{Float, binary32, div}
+use Rattle.bits.specs.Fields.{byCode}
 use Rattle.timing.specs.declared.Size.{Size}
-use Rattle.crate_record.specs.Single.{f0, f10, f100, f1024, f2, whole, levelOf}
+use Rattle.crate_record.specs.Single.{f0, f1, f2, f10, f100, f1024, f0·7, f0·3, f0·714, f0·286, f0·4, whole}
 use Rattle.crate_record.specs.Seen.{Seen as CrateSeen}
 use Rattle.crate_record.specs.declared.ManufacturerID.{ManufacturerID}
 use Rattle.crate_record.specs.declared.ProductInformation.{ProductInformation}
+use Rattle.crate_record.specs.declared.SignalLevel.{SignalLevel}
 use Rattle.crate_record.specs.declared.VideoInput.{VideoInput as CrateInput}
 use Rattle.crate_record.specs.declared.ImageSize.{ImageSize as CrateSize}
 use Rattle.crate_record.specs.declared.MaxSize.{MaxSize}
@@ -74,9 +76,17 @@ ratioFrom r = over (r .width) (whole (r .height))
 abbrev pub productFrom : ManufacturerID → Product → ProductInformation
 productFrom maker p = record { maker = maker; code = p .code; serial = p .serial; date = record { week = p .week; year = p .year } }
 
--- the code of the levels to volts
+-- the code of the levels to volts, high and low
+abbrev pub levelFrom : ℕ → SignalLevel
+levelFrom code =
+    byCode code
+    (record { high = f0·7; low = f0·3 })
+    (record { high = f0·714; low = f0·286 })
+    (record { high = f1; low = f0·4 })
+    (record { high = f0·7; low = f0 })
+
 abbrev pub inputFrom : VideoInput → CrateInput
-inputFrom (VideoInput.Analog level setup sync) = CrateInput.Analog (levelOf level) setup sync
+inputFrom (VideoInput.Analog level setup sync) = CrateInput.Analog (levelFrom level) setup sync
 inputFrom (VideoInput.Digital dfp) = CrateInput.Digital dfp
 
 abbrev pub sizeFrom : ImageSize → MaxSize
@@ -113,7 +123,7 @@ colorsFrom c = record {
 
 -- ---- the entries of the lists
 
--- the crate record has no word for a gamma that is not given; 0 is the gamma of no byte
+-- the crate record has no word for a gamma that is not given; 0 is the gamma of no byte (`never-that-gamma`)
 abbrev pub pointGamma : Gamma → Float
 pointGamma Gamma.None = f0
 pointGamma (Gamma.Some n) = over n f100

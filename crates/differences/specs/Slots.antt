@@ -1,7 +1,7 @@
 -- The four slots of an unmarked block, one after the other: each begins where the standard reading has it.
 use Prim.Native.Nat.{ℕ, zero, suc, _+_, _<_}
 use mathlib.Core.Path.{_≡_, refl, sym, ap, subst}
-use mathlib.Core.Bool.{Bool, true, false, cond}
+use mathlib.Core.Bool.{Bool, true, false, _&&_, _||_, cond, false≢true}
 use mathlib.Core.List.{List, [], _∷_}
 use native.Mathlib.Omega.{arith}
 use lib.Dec.{ltb}
@@ -20,7 +20,7 @@ use Rattle.standard_slots.specs.Said.{refusal, lists, said}
 use Rattle.standard_reading.specs.Slots.{start, structureIn, saidIn, judge}
 use Rattle.write_leaf.specs.Again.{part-bytes}
 use Rattle.marking.specs.Marks.{some, slotIn, inSlots, activeLowZero, tag10, indexZero, gammaFF, codesZero, pairsZero, marksIn}
-use Rattle.differences.specs.Unmarked.{Block, Unmarked}
+use Rattle.differences.specs.Unmarked.{Block, Unmarked, otherFill}
 use Rattle.differences.specs.Along.{Along, along-map, along-then, spelled, spell}
 use Rattle.differences.specs.Pairs.{nor}
 use Rattle.differences.specs.Kinds.{plainFrom, Clean, slot-along}
@@ -33,6 +33,23 @@ none-of (suc n) f h i l = go (ltb i n) refl (none-of n f (nor (some n f) (f n) h
     go : (t : Bool) → ltb i n ≡ t → (i < n → f i ≡ false) → f i ≡ false
     go true e before = before (ltb-true i n e)
     go false e before = let here : i ≡ n = omega (arith, ltb-false i n e) in rw here (nor (some n f) (f n) h .1)
+
+-- this one, so one of n
+or-second : (a b : Bool) → b ≡ true → (a || b) ≡ true
+or-second true b h = refl
+or-second false b h = h
+
+one-of : (n : ℕ) (f : ℕ → Bool) (i : ℕ) → i < n → f i ≡ true → some n f ≡ true
+one-of zero f i l h = absurd (omega arith)
+one-of (suc n) f i l h = go (ltb i n) refl (one-of n f i)
+  where
+    go : (t : Bool) → ltb i n ≡ t → (i < n → f i ≡ true → some n f ≡ true) → (some n f || f n) ≡ true
+    go true e before = rw (before (ltb-true i n e) h)
+    go false e before = let here : i ≡ n = omega (arith, ltb-false i n e) in or-second (some n f) (f n) (subst (λ (k : ℕ). f k ≡ true) here h)
+
+second-not : (a b : Bool) → a ≡ true → (a && b) ≡ false → b ≡ false
+second-not true b e h = h
+second-not false b e h = absurd (false≢true e)
 
 -- below 3 by the structure, and by the revision
 pub below-three : (r : ℕ) → structureOf r ≡ Structure.Below3 → ltb r 3 ≡ true
@@ -71,7 +88,7 @@ module _ (s : List ℕ) (block : Block s) (unmarked : Unmarked s) where
   -- of ratios there is something to say below revision 3 alone
   pub ratios : structureIn s ≡ Structure.Below3 → (codesZero s 38 8 ≡ false) × (inSlots pairsZero s ≡ false)
   unfolding marksIn
-  ratios e = nor (codesZero s 38 8) (inSlots pairsZero s) (rw (below-three (s ! 19) e) at (unmarked .ratio))
+  ratios e = nor (codesZero s 38 8) (inSlots pairsZero s) (second-not (ltb (s ! 19) 3) _ (below-three (s ! 19) e) (unmarked .ratio))
 
   not-in : (f : List ℕ → Bool) → inSlots f s ≡ false → (i : ℕ) → i < 4 → f (slotIn s i) ≡ false
   not-in f = none-of 4 (λ i. f (slotIn s i))
@@ -88,15 +105,15 @@ module _ (s : List ℕ) (block : Block s) (unmarked : Unmarked s) where
         ratio = λ e. not-in pairsZero (ratios e .1) i l;
       }
 
-  module _ (F : ℕ → Type 0) (five : F 5) (refused : (i : ℕ) → i < 4 → (n : ℕ) → saidIn s i ≡ refusal n → F n) where
+  module _ (F : ℕ → Type 0) (refused : (i : ℕ) → i < 4 → (n : ℕ) → saidIn s i ≡ refusal n → F n) (filled : inSlots otherFill s ≡ true → F 5) where
     one-along : (i : ℕ) → i < 4 → Along (Tells s i (slotIn s i)) F (detailed >>= saidAt i) (drop (start i) s) (start i)
     one-along i l =
         let e = spell s (start i) 18 (omega (arith, block .size)) in
         let f : slotIn s i ≡ spelled s (start i) 18 [] = ap (take 18) e in
         subst (λ (bs : List ℕ). Along (Tells s i (slotIn s i)) F (detailed >>= saidAt i) bs (start i)) (sym e)
         (subst (λ (t : List ℕ). Along (Tells s i t) F (detailed >>= saidAt i) (spelled s (start i) 18 (drop (start i + 18) s)) (start i)) (sym f)
-        (slot-along (structureIn s) F five _ _ _ _ _ _ _ _ _ _ _ _ _ _ _ _ _ _ (drop (start i + 18) s) (start i) i
-        (subst (Clean (structureIn s)) f (clean i l)) (λ n h. refused i l n (rw f h))))
+        (slot-along (structureIn s) F _ _ _ _ _ _ _ _ _ _ _ _ _ _ _ _ _ _ (drop (start i + 18) s) (start i) i
+        (subst (Clean (structureIn s)) f (clean i l)) (λ n h. refused i l n (rw f h)) (λ h. filled (one-of 4 (λ j. otherFill (slotIn s j)) i l (rw f h)))))
 
     -- ---- one after the other
 

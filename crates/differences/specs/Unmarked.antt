@@ -1,17 +1,19 @@
 -- What `differences-are-whole` says: a block without the five marks, and what then holds of its two records.
-use Prim.Native.Nat.{ℕ, _+_, _*_, _<_}
+use Prim.Native.Nat.{ℕ, _+_, _*_}
 use mathlib.Core.Path.{_≡_}
-use mathlib.Core.Bool.{false}
+use mathlib.Core.Bool.{Bool, false, not, _&&_, _||_}
 use mathlib.Core.List.{List}
-use lib.ListN.{length}
+use lib.ListN.{length, drop}
+use Rattle.bits.specs.Bytes.{_!_, part}
 use Rattle.crate_record.specs.Seen.{Seen as CrateSeen}
 use Rattle.crate_record.specs.declared.ManufacturerID.{ManufacturerID}
 use Rattle.crate_head.specs.Head.{makerOf as crateMakerOf}
 use Rattle.standard_record.specs.Seen.{Seen}
 use Rattle.standard_record.specs.declared.Maker.{Maker}
 use Rattle.standard_parts.specs.Head.{makerOf}
+use Rattle.standard_parts.specs.Text.{textLength, allSpaces}
 use Rattle.write_leaf.specs.Bytes.{Bytes}
-use Rattle.marking.specs.Marks.{marksIn}
+use Rattle.marking.specs.Marks.{tagged, marksIn}
 use Rattle.differences.specs.Converted.{converted}
 
 -- 128 bytes
@@ -27,15 +29,16 @@ pub record Unmarked (s : List ℕ) : Type 0 where
   pub gamma : marksIn s .gamma ≡ false
   pub ratio : marksIn s .ratio ≡ false
 
--- the maker's rule: one word of two bytes gives both, the crate's with the low byte first, the standard one with the high byte first
-pub record SameWord (number : ManufacturerID) (letters : Maker) : Type 0 where
-  pub first : ℕ
-  pub second : ℕ
-  pub bytes : (first < 256) × (second < 256)
+-- no mark, but a difference: of a slot, a text with something else than spaces behind its 0x0a
+abbrev pub otherFill : List ℕ → Bool
+otherFill t = (tagged 0xfc t || tagged 0xfe t || tagged 0xff t) && not (allSpaces (drop (textLength (part t 5 13) + 1) (part t 5 13)))
+
+-- the maker's rule: two bytes give both, the crate's with the low byte first, the standard one with the high byte first
+pub record SameWord (first second : ℕ) (number : ManufacturerID) (letters : Maker) : Type 0 where
   pub crate : number ≡ crateMakerOf (first + 256 * second)
   pub standard : letters ≡ makerOf first second
 
--- all other fields of the crate record are those of the standard record, converted
-pub record Agree (crate : CrateSeen) (standard : Seen) : Type 0 where
-  pub maker : SameWord (crate .product .maker) (standard .product .maker)
+-- all other fields of the crate record are those of the standard record, converted; s is the block
+pub record Agree (s : List ℕ) (crate : CrateSeen) (standard : Seen) : Type 0 where
+  pub maker : SameWord (s ! 8) (s ! 9) (crate .product .maker) (standard .product .maker)
   pub rest : crate ≡ converted (crate .product .maker) standard

@@ -37,10 +37,11 @@ use Rattle.standard_slots.specs.Said.{refusal, lists}
 use Rattle.standard_reading.specs.Slots.{start, structureIn, saidIn, judge, judged}
 use Rattle.standard_reading.specs.Block.{flagsIn, eightIn, plain, standardOf}
 use Rattle.standard_reading.specs.Judged.{end-is-verdict, accepted-before, accepted-slot}
+use Rattle.marking.specs.Marks.{inSlots}
 use Rattle.demands.specs.Demands as crate-demands
 use Rattle.demands.specs.Standard as standard-demands
 use Rattle.differences.specs.Converted.{pointFrom, pairFrom, timingFrom, heldFrom, converted}
-use Rattle.differences.specs.Unmarked.{Block, Unmarked, Agree}
+use Rattle.differences.specs.Unmarked.{Block, Unmarked, otherFill, Agree}
 use Rattle.differences.specs.Along.{Along, along-map, along-then, Came, along, spell}
 use Rattle.differences.specs.Pairs.{PairsRead, pairs-along}
 use Rattle.differences.specs.Heads.{frontFrom, FrontRead, front-along}
@@ -127,7 +128,8 @@ module _ (s : List ℕ) where
       })
 
 module _ (s : List ℕ) (block : Block s) (unmarked : Unmarked s) where
-  module _ (F : ℕ → Type 0) (five : F 5) (two : isHeader s ≡ false → F 2) (refused : (i : ℕ) → i < 4 → (n : ℕ) → saidIn s i ≡ refusal n → F n) where
+  module _ (F : ℕ → Type 0) (two : isHeader s ≡ false → F 2) (refused : (i : ℕ) → i < 4 → (n : ℕ) → saidIn s i ≡ refusal n → F n)
+      (filled : inSlots otherFill s ≡ true → F 5) where
     eight-along : Along (PairsRead (structureIn s) s 38 8 38) F (pairs 8) (drop 38 s) 38
     eight-along = pairs-along (structureIn s) s F 8 38 38 (omega (arith, block .size)) (λ e. ratios s block unmarked e .0)
 
@@ -140,7 +142,7 @@ module _ (s : List ℕ) (block : Block s) (unmarked : Unmarked s) where
         along-then _ F crate.slots _ (drop 54 s) 54
         (along-map (LaterRead s 4 0) F _ crate.slots (drop 54 s) 54
         (λ xs cs m r. rw (r .2, spell s 126 1 (omega (arith, block .size))) (h, r .0, plain-agrees s f a xs e k (r .1), omega (arith, r .3)))
-        (slots-along s block unmarked F five refused))
+        (slots-along s block unmarked F refused filled))
 
     parts-along : Along (PartsRead s) F parts s 0
     unfolding parts established byte word flagsOf crateFlagsOf
@@ -184,10 +186,10 @@ module _ (s : List ℕ) (block : Block s) (unmarked : Unmarked s) where
   read-parts : (p : Parts) (n : ℕ) → run parts s 0 ≡ got p n → PartsRead s p (drop n s) n
   read-parts p n e =
       subst (Came s (PartsRead s) (λ k. Unit {0})) e
-      (along (PartsRead s) (λ k. Unit {0}) parts s 0 (parts-along s block unmarked (λ k. Unit {0}) tt (λ h. tt) (λ i l k h. tt)))
+      (along (PartsRead s) (λ k. Unit {0}) parts s 0 (parts-along s block unmarked (λ k. Unit {0}) (λ h. tt) (λ i l k h. tt) (λ h. tt)))
 
   -- where both readings accept it, the two records agree
-  pub differences-are-whole : (e : EDID) (n : ℕ) → answer s ≡ got e n → standardOf s .end ≡ Accepted → Agree (seen e) (standardSeen (standardOf s .edid))
+  pub differences-are-whole : (e : EDID) (n : ℕ) → answer s ≡ got e n → standardOf s .end ≡ Accepted → Agree s (seen e) (standardSeen (standardOf s .edid))
   unfolding converted productIn
   differences-are-whole e n h a =
       let q = crate-demands.nothing-dropped s e n h in
@@ -195,13 +197,7 @@ module _ (s : List ℕ) (block : Block s) (unmarked : Unmarked s) where
       let shown = q .2 ∙ read-parts (q .0) n (q .1) .2 ∙ ap (converted (number s)) (sym whole) in
       let maker = ap (λ x. x .product .maker) shown in
       record {
-        maker = record {
-          first = s ! 8;
-          second = s ! 9;
-          bytes = (block .bytes 8, block .bytes 9);
-          crate = maker;
-          standard = ap (λ x. x .product .maker) whole;
-        };
+        maker = record { crate = maker; standard = ap (λ x. x .product .maker) whole };
         rest = shown ∙ ap (λ m. converted m (standardSeen (standardOf s .edid))) (sym maker);
       }
 
@@ -217,10 +213,20 @@ module _ (s : List ℕ) (block : Block s) (unmarked : Unmarked s) where
       let r = read-parts (q .0) n (q .1) in
       end-is-verdict s ∙ judged-slots s (r .1) ∙ rw (eq-eqb (length s) 128 (block .size), r .0)
 
-  -- what the standard reading accepts, the crate reading refuses with 5 alone
-  pub standard-only-by-5 : (k n : ℕ) → standardOf s .end ≡ Accepted → answer s ≡ refused k n → k ≡ 5
-  standard-only-by-5 k n a h =
+  -- what the standard reading accepts, the crate reading refuses with 5 alone, for a text that is filled up otherwise
+  pub standard-only-by-a-text : (k n : ℕ) → standardOf s .end ≡ Accepted → answer s ≡ refused k n → (k ≡ 5) × (inSlots otherFill s ≡ true)
+  standard-only-by-a-text k n a h =
       let header = has-header s (accepted-before s a) in
-      subst (Came s (PartsRead s) (λ j. j ≡ 5)) (refused-parts s k n h)
-      (along (PartsRead s) (λ j. j ≡ 5) parts s 0 (parts-along s block unmarked (λ j. j ≡ 5) refl
-      (λ no. absurd (false≢true (sym no ∙ header))) (λ i l j said. not-refused j (start i) (ap (λ x. judge x (start i)) (sym said) ∙ accepted-slot s a i l))))
+      let F : ℕ → Type 0 = λ j. (j ≡ 5) × (inSlots otherFill s ≡ true) in
+      subst (Came s (PartsRead s) F) (refused-parts s k n h)
+      (along (PartsRead s) F parts s 0 (parts-along s block unmarked F
+      (λ no. absurd (false≢true (sym no ∙ header)))
+      (λ i l j said. not-refused j (start i) (ap (λ x. judge x (start i)) (sym said) ∙ accepted-slot s a i l)) (λ e. (refl, e))))
+
+  -- so without such a text it accepts too
+  pub both-accept : standardOf s .end ≡ Accepted → inSlots otherFill s ≡ false → (e : EDID) × (answer s ≡ got e 127)
+  both-accept a f = go (answer s) refl
+    where
+      go : (o : Outcome EDID) → answer s ≡ o → (e : EDID) × (answer s ≡ got e 127)
+      go (got e n) h = (e, h ∙ ap (got e) (unmarked-takes-127 e n h))
+      go (refused k n) h = absurd (false≢true (sym f ∙ standard-only-by-a-text k n a h .1))
