@@ -9,5 +9,6 @@ pub mod Closings
 pub mod Kinds
 pub mod Heads
 pub mod Slots
+pub mod Parts
 pub mod Whole
 pub mod Alone
