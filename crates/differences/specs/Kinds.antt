@@ -9,25 +9,18 @@ use native.Mathlib.Omega.{arith}
 use lib.Dec.{eqb, ltb}
 use lib.ListN.{drop}
 use borrow.Author.Tests.{ne-eqb}
-use Rattle.bits.specs.Fields.{digits, bit}
 use Rattle.steps.specs.Steps.{done, _>>=_}
 use Rattle.steps.specs.Leaves.{byte, word}
 use Rattle.steps.specs.declared.Span.{Span}
 use Rattle.tags.specs.Tags.{tagOf}
 use Rattle.tags.specs.declared.Tag.{Tag}
-use Rattle.timing.specs.Axis.{acrossOf, downOf}
-use Rattle.timing.specs.Rest.{clockOf, sizeOf, borderOf, stereoOf}
-use Rattle.timing.specs.declared.Across.{Across}
-use Rattle.timing.specs.declared.Down.{Down}
-use Rattle.timing.specs.declared.AcrossRead.{AcrossRead}
-use Rattle.timing.specs.declared.DownRead.{DownRead}
 use Rattle.crate_record.specs.declared.StandardTiming.{StandardTiming as CratePair}
 use Rattle.crate_record.specs.declared.DetailedTiming.{DetailedTiming as CrateTiming}
 use Rattle.crate_record.specs.declared.WhitePoint.{WhitePoint as CratePoint}
 use Rattle.crate_record.specs.declared.SecondaryTiming.{SecondaryTiming as CrateSecond}
 use Rattle.crate_record.specs.declared.MonitorDescriptor.{MonitorDescriptor}
 use Rattle.crate_record.specs.declared.Held.{Held as CrateHeld}
-use Rattle.crate_detailed.specs.Detailed.{fitted, axes, syncOf as crateSyncOf, timingOf, timed, detailed}
+use Rattle.crate_detailed.specs.Detailed.{detailed}
 use Rattle.crate_detailed.specs.declared.MaybeTiming.{MaybeTiming}
 use Rattle.crate_descriptors.specs.Descriptors as crate
 use Rattle.crate_descriptors.specs.declared.Points.{Points}
@@ -37,12 +30,9 @@ use Rattle.crate_text.specs.Text.{skip, span, text}
 use Rattle.crate_timings.specs.Pairs.{pairs}
 use Rattle.crate_slots.specs.Slots as slots
 use Rattle.crate_end.specs.Ends.{saidAt}
-use Rattle.standard_record.specs.declared.DetailedTiming.{DetailedTiming}
 use Rattle.standard_record.specs.declared.Descriptor.{Descriptor}
 use Rattle.standard_record.specs.declared.SecondaryTiming.{SecondaryTiming}
 use Rattle.standard_record.specs.declared.Verdict.the-variants.{Accepted}
-use Rattle.standard_timing.specs.Timing.{timingIn, syncOf}
-use Rattle.standard_timing.specs.declared.Timed.{Timed}
 use Rattle.standard_parts.specs.Color.{pointOf}
 use Rattle.standard_parts.specs.Text.{textLength, allSpaces}
 use Rattle.standard_parts.specs.Descriptors.{limitsOf, secondaryOf, rangeRefusal}
@@ -52,11 +42,12 @@ use Rattle.standard_reading.specs.Slots.{judge}
 use Rattle.write_leaf.specs.Bytes.{Bytes}
 use Rattle.write_leaf.specs.Again.{drop-bytes}
 use Rattle.marking.specs.Marks.{activeLowZero, tag10, indexZero, gammaFF, codesZero, pairsZero}
-use Rattle.differences.specs.Converted.{cmFrom, pointFrom, pairFrom, timingFrom, limitsFrom, secondFrom, descriptorFrom, heldFrom}
+use Rattle.differences.specs.Converted.{pointFrom, pairFrom, timingFrom, limitsFrom, secondFrom, descriptorFrom, heldFrom}
 use Rattle.differences.specs.Unmarked.{otherFill}
 use Rattle.differences.specs.Along.{Along, along-map, along-then, along-if, along-ensured}
-use Rattle.differences.specs.Leaves.{through, point-agrees, sync-agrees}
+use Rattle.differences.specs.Leaves.{through, point-agrees}
 use Rattle.differences.specs.Pairs.{nor, PairsRead, pairs-along}
+use Rattle.differences.specs.Timed.{TimingRead, timing-along}
 use Rattle.differences.specs.Closings.{TextRead, text-along, closing-then}
 
 -- what a slot lists, converted
@@ -104,52 +95,6 @@ known b = go (eqb b 0x10) (eqb b 0xfa) (eqb b 0xfb) (eqb b 0xfc) (eqb b 0xfd) (e
 module _ (σ : Structure) (F : ℕ → Type 0) (b0 b1 b2 b3 b4 b5 b6 b7 b8 b9 b10 b11 b12 b13 b14 b15 b16 b17 : ℕ) (rest : List ℕ) (at : ℕ) where
   abbrev pub slot : List ℕ
   slot = b0 ∷ b1 ∷ b2 ∷ b3 ∷ b4 ∷ b5 ∷ b6 ∷ b7 ∷ b8 ∷ b9 ∷ b10 ∷ b11 ∷ b12 ∷ b13 ∷ b14 ∷ b15 ∷ b16 ∷ b17 ∷ []
-
-  -- ---- a slot with a clock
-
-  abbrev TimingRead : MaybeTiming → List ℕ → ℕ → Type 0
-  TimingRead m cs n = (d : DetailedTiming) × (timingIn slot ≡ Timed.Is d) × (m ≡ MaybeTiming.Some (timingFrom d)) × (cs ≡ rest) × (n ≡ at + 18)
-
-  -- the standard timing with these axes
-  abbrev fields : Across → Down → DetailedTiming
-  fields h v =
-      record {
-        clock = clockOf (b0 + 256 * b1);
-        across = h;
-        down = v;
-        size = sizeOf b12 b13 b14;
-        border = borderOf b15 b16;
-        interlaced = bit b17 7;
-        stereo = stereoOf b17;
-        sync = syncOf b17;
-      }
-
-  fields-agree : (h : Across) (v : Down)
-      → MaybeTiming.Some (timingOf (b0 + 256 * b1) (record { across = h; down = v }) b12 b13 b14 b15 b16 b17) ≡ MaybeTiming.Some (timingFrom (fields h v))
-  unfolding timingOf crateSyncOf
-  fields-agree h v = λ i. MaybeTiming.Some (record {
-    clock = clockOf (b0 + 256 * b1);
-    across = h;
-    down = v;
-    size = cmFrom (sizeOf b12 b13 b14);
-    border = borderOf b15 b16;
-    interlaced = bit b17 7;
-    stereo = stereoOf b17;
-    sync = sync-agrees (digits b17 3 2) (bit b17 2) (bit b17 1) i;
-  })
-
-  -- the bytes behind the active low byte, by what the axes come to
-  timed-along : (h : AcrossRead) (v : DownRead) → acrossOf b2 b3 b4 b8 b9 b11 ≡ h → downOf b5 b6 b7 b10 b11 ≡ v → (timingIn slot ≡ Timed.Over → F 6)
-      → Along TimingRead F (timed (b0 + 256 * b1) b2) (drop 3 slot ++ rest) (at + 1 + 1 + 1)
-  unfolding timed axes fitted timingIn byte
-  timed-along AcrossRead.Over v e f six = rw (e, Along) (six (rw e))
-  timed-along (AcrossRead.Fits h) DownRead.Over e f six = rw (e, f, Along) (six (rw (e, f)))
-  timed-along (AcrossRead.Fits h) (DownRead.Fits v) e f six = rw (e, f, Along) (fields h v, rw (e, f), fields-agree h v, refl, omega arith)
-
-  timing-along : eqb (b0 + 256 * b1) 0 ≡ false → eqb b2 0 ≡ false → (timingIn slot ≡ Timed.Over → F 6) → Along TimingRead F detailed (slot ++ rest) at
-  unfolding detailed byte word
-  timing-along clock low six =
-      rw (clock, low, Along) (timed-along (acrossOf b2 b3 b4 b8 b9 b11) (downOf b5 b6 b7 b10 b11) refl refl six)
 
   -- ---- a slot without a clock, behind its tag and the byte after it
 
@@ -292,9 +237,9 @@ module _ (σ : Structure) (F : ℕ → Type 0) (b0 b1 b2 b3 b4 b5 b6 b7 b8 b9 b1
   unfolding said
   clocked-along i c clock refused =
       along-then _ F detailed (saidAt i) (slot ++ rest) at
-      (along-map TimingRead F _ detailed (slot ++ rest) at
+      (along-map (TimingRead F b0 b1 b2 b3 b4 b5 b6 b7 b8 b9 b10 b11 b12 b13 b14 b15 b16 b17 rest at) F _ detailed (slot ++ rest) at
       (λ m cs n r. rw (r .2, some-said i (timingFrom (r .0))) (rw (clock, r .1), rw (clock, r .1), r .3, r .4))
-      (timing-along clock (rw clock at (c .active)) (λ e. refused 6 (rw (clock, e)))))
+      (timing-along F b0 b1 b2 b3 b4 b5 b6 b7 b8 b9 b10 b11 b12 b13 b14 b15 b16 b17 rest at clock (rw clock at (c .active)) (λ e. refused 6 (rw (clock, e)))))
 
   pub slot-along : (i : ℕ) → Clean σ slot → ((n : ℕ) → said σ i slot at ≡ refusal n → F n) → (otherFill slot ≡ true → F 5)
       → Along (Told (said σ i slot at)) F (detailed >>= saidAt i) (slot ++ rest) at

@@ -6,6 +6,7 @@ pub mod Along
 pub mod Leaves
 pub mod Pairs
 pub mod Closings
+pub mod Timed
 pub mod Kinds
 pub mod Heads
 pub mod Slots

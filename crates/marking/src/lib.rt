@@ -1,6 +1,6 @@
 // The marks of a block: what it holds, at fixed places, that the two readings take for different things. And the words that list them.
 ghost use mathlib.Core.Path.{_≡_};
-ghost use mathlib.Core.Bool.{_&&_, _||_};
+ghost use mathlib.Core.Bool.{_||_};
 ghost use lib.ListN.{take, drop};
 ghost use Rattle.page.specs.Page.{page, _▷_};
 ghost use Rattle.marking.specs.Marks.{clockless, tagged, activeLowZero, indexZero, gammaFF, codeZero, codesZero, marksIn};
@@ -16,14 +16,7 @@ pub struct Marks {
     pub ratio: bool,
 }
 
-// ---- two tests as one, without a branch in the caller
-
-fn both(a: bool, b: bool) -> bool
-    ensures { λ r. ⌜ r ≡ (a && b) ⌝ }
-{
-    if a { b } else { false }
-}
-
+// Two tests as one, without a branch in the caller.
 fn either(a: bool, b: bool) -> bool
     ensures { λ r. ⌜ r ≡ (a || b) ⌝ }
 {
@@ -36,7 +29,10 @@ fn either(a: bool, b: bool) -> bool
 fn code_zero(low: u8, high: u8) -> bool
     ensures { λ r. ⌜ r ≡ codeZero low high ⌝ }
 {
-    both(bits::digits(high, 6, 2) == 0, !both(low == 1, high == 1))
+    write_leaf::both(
+        bits::digits(high, 6, 2) == 0,
+        !write_leaf::both(low == 1, high == 1),
+    )
 }
 
 // Whether one of the n pairs from k on is such a pair.
@@ -67,19 +63,19 @@ fn clockless(t: &[u8]) -> bool
 fn tagged(tag: u8, t: &[u8]) -> bool
     ensures { λ r. ⌜ r ≡ tagged tag (now (t .entry)) ⌝ }
 {
-    both(clockless(t), bits::byte_at(t, 3) == tag)
+    write_leaf::both(clockless(t), bits::byte_at(t, 3) == tag)
 }
 
 fn active_low_zero(t: &[u8]) -> bool
     ensures { λ r. ⌜ r ≡ activeLowZero (now (t .entry)) ⌝ }
 {
-    both(!clockless(t), bits::byte_at(t, 2) == 0)
+    write_leaf::both(!clockless(t), bits::byte_at(t, 2) == 0)
 }
 
 fn index_zero(t: &[u8]) -> bool
     ensures { λ r. ⌜ r ≡ indexZero (now (t .entry)) ⌝ }
 {
-    both(
+    write_leaf::both(
         tagged(0xfb, t),
         either(bits::byte_at(t, 5) == 0, bits::byte_at(t, 10) == 0),
     )
@@ -88,7 +84,7 @@ fn index_zero(t: &[u8]) -> bool
 fn gamma_ff(t: &[u8]) -> bool
     ensures { λ r. ⌜ r ≡ gammaFF (now (t .entry)) ⌝ }
 {
-    both(
+    write_leaf::both(
         tagged(0xfb, t),
         either(bits::byte_at(t, 9) == 0xff, bits::byte_at(t, 14) == 0xff),
     )
@@ -105,7 +101,10 @@ fn with_slot(m: Marks, t: &[u8]) -> Marks
         dummy: either(m.dummy, tagged(0x10, t)),
         index: either(m.index, index_zero(t)),
         gamma: either(m.gamma, gamma_ff(t)),
-        ratio: either(m.ratio, both(tagged(0xfa, t), codes_zero(t, 5, 6))),
+        ratio: either(
+            m.ratio,
+            write_leaf::both(tagged(0xfa, t), codes_zero(t, 5, 6)),
+        ),
     }
 }
 
@@ -118,7 +117,7 @@ fn in_block(s: &[u8], m: Marks) -> Marks
         dummy: m.dummy,
         index: m.index,
         gamma: m.gamma,
-        ratio: both(
+        ratio: write_leaf::both(
             bits::byte_at(s, 19) < 3,
             either(codes_zero(s, 38, 8), m.ratio),
         ),
