@@ -12,6 +12,11 @@ extern side any_cta_entry, c_nothing, c_sum, every_field, every_standard_field, 
 static uint64_t refusal_number(const uint8_t *block, size_t length) { return edid_refusal_number(block, length); }
 static uint64_t bytes_taken(const uint8_t *block, size_t length) { return edid_bytes_taken(block, length); }
 static uint64_t sum_is_zero(const uint8_t *block, size_t length) { return edid_sum_is_zero(block, length); }
+static uint64_t pick(const uint8_t *block, size_t length)
+{
+    static uint32_t numbers[EDID_NUMBERS];
+    return edid_pick(block, length, 165000000, 1920, 1200, numbers, EDID_NUMBERS);
+}
 
 /* The writer has its output lent: its sides are called through these two. */
 typedef uint8_t writer(const uint8_t *block, size_t length, uint8_t *out, size_t size);
@@ -46,6 +51,7 @@ static const struct {
     {"refusal_number", refusal_number},
     {"bytes_taken", bytes_taken},
     {"sum_is_zero", sum_is_zero},
+    {"pick", pick},
     {"one_burst", one_burst},
     {"bursts_of_8", bursts_of_8},
     {"byte_by_byte", byte_by_byte},

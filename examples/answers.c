@@ -1,9 +1,11 @@
 /* What the exported functions answer, for each frame or script of bursts on standard input.
  *     answers <FRAMES          a line each: refusal number, bytes taken, whether the sum is zero
  *     answers bursts <SCRIPTS  a line for each burst, what is told after it; then refusal number and bytes taken at the end, and a line `--`
+ *     answers pick <FRAMES     a line each: the answer of edid_pick, then all lent numbers; before the call lent number k is 4000000000 + k
  * A frame is its length in 16 bits, low byte first, then as many bytes, at most 4,096; a script the number of its bursts in 16 bits, then each as
- * a frame is, but of any length. A block, or a burst, ends where its page ends, and so does a state; the page behind it can be neither read nor
- * written: a step past it ends the program.
+ * a frame is, but of any length. For edid_pick a frame begins with the limits, the clock in 32 bits, across and down in 16 each, low byte first, and a
+ * byte that says how many numbers are lent; the block follows. A block, or a burst, ends where its page ends, and so do a state and the lent numbers; the
+ * page behind it can be neither read nor written: a step past it ends the program.
  * Exit status: 0 all was answered, 1 not so. */
 #define _DEFAULT_SOURCE
 #include <stdio.h>
@@ -13,9 +15,11 @@
 #include <unistd.h>
 #include "edid.h"
 
-enum { LONGEST = 4096, LONGEST_BURST = 65535 };
+enum { LONGEST = 4096, LONGEST_BURST = 65535, BEFORE_BLOCK = 9, MOST_LENT = 255 };
 
-/* Where a block, a burst or a state has to end: as many bytes at least before it, a page that cannot be touched behind it. */
+static const uint32_t UNTOUCHED = 4000000000;
+
+/* Where a block, a burst, a state or the lent numbers have to end: as many bytes at least before it, a page that cannot be touched behind it. */
 static uint8_t *end_of_page(size_t bytes)
 {
     size_t page = (size_t)sysconf(_SC_PAGESIZE), room = (bytes + page - 1) / page * page;
@@ -27,11 +31,16 @@ static uint8_t *end_of_page(size_t bytes)
     return start + room;
 }
 
+static uint16_t word_at(const uint8_t *bytes)
+{
+    return (uint16_t)(bytes[0] | bytes[1] << 8);
+}
+
 static bool read_word(size_t *word)
 {
     uint8_t bytes[2];
     bool there = fread(bytes, 1, 2, stdin) == 2;
-    *word = there ? bytes[0] | (size_t)bytes[1] << 8 : 0;
+    *word = there ? word_at(bytes) : 0;
     return there;
 }
 
@@ -67,14 +76,35 @@ static bool answer_script(size_t bursts)
     return true;
 }
 
+static bool answer_pick(size_t length)
+{
+    static uint8_t *end;
+    static uint32_t *lent;
+    end = end ? end : end_of_page(LONGEST);
+    lent = lent ? lent : (uint32_t *)end_of_page(MOST_LENT * sizeof *lent);
+    if (length < BEFORE_BLOCK || !read_to(end, length, LONGEST))
+        return false;
+    const uint8_t *before = end - length, *block = before + BEFORE_BLOCK;
+    uint32_t clock = word_at(before) | (uint32_t)word_at(before + 2) << 16, *numbers = lent - before[8];
+    for (size_t k = 0; k < before[8]; k++)
+        numbers[k] = UNTOUCHED + (uint32_t)k;
+    uint32_t number = edid_pick(block, (size_t)(end - block), clock, word_at(before + 4), word_at(before + 6), numbers, before[8]);
+    printf("%u", (unsigned)number);
+    for (size_t k = 0; k < before[8]; k++)
+        printf(" %u", (unsigned)numbers[k]);
+    putchar('\n');
+    return true;
+}
+
 int main(int argc, char **argv)
 {
-    bool scripts = argc == 2 && !strcmp(argv[1], "bursts");
+    const char *what = argc == 2 ? argv[1] : "";
+    bool (*answer)(size_t) = !strcmp(what, "bursts") ? answer_script : !strcmp(what, "pick") ? answer_pick : answer_frame;
     int next;
     while ((next = getchar()) != EOF && ungetc(next, stdin) != EOF) {
         size_t word;
-        if (!read_word(&word) || !(scripts ? answer_script : answer_frame)(word)) {
-            fputs("answers: a frame or a script is cut short, or a frame too long\n", stderr);
+        if (!read_word(&word) || !answer(word)) {
+            fputs("answers: a frame or a script is cut short, or a frame too short or too long\n", stderr);
             return 1;
         }
     }

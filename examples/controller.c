@@ -1,12 +1,15 @@
 /* What a controller does with the block that a panel sends: it hands on each burst as it comes, and prints what a service desk wants to
  * read. A slot of white points with one point takes 23 bytes, so a whole block may be too short: then the controller takes the
- * extension too, if byte 126 says that there is one.
+ * extension too, if byte 126 says that there is one. Then it asks which timing the board can show; that is by the standard reading, of the whole block,
+ * so what the first answer did not wait for is awaited now.
  *     controller [FILE]       as /sys/class/drm/card0-HDMI-A-1/edid; standard input where no FILE is named
  * Exit status: 0 accepted and the checksum is right, 1 not so, 2 nothing could be read. */
 #include <stdio.h>
 #include "edid.h"
 
 enum { BURST = 16, BLOCK = 128, EXTENSIONS = 126 };
+enum { BOARD_CLOCK = 165000000, BOARD_ACROSS = 1920, BOARD_DOWN = 1200 }; /* the most that the board can drive */
+enum { NO_TIMING = 14 };
 
 #define OR_LATE ": badly written, or a slot of white points (fb) or tag 10 before it put this reading out of step; use the standard reading"
 
@@ -43,6 +46,27 @@ static bool print_checksum(const uint8_t *block, size_t length)
     return right;
 }
 
+static void print_pick(const uint8_t *block, size_t length)
+{
+    uint32_t numbers[EDID_NUMBERS];
+    uint32_t number = edid_pick(block, length, BOARD_CLOCK, BOARD_ACROSS, BOARD_DOWN, numbers, EDID_NUMBERS);
+    if (number == 0)
+        printf("show %u x %u at %u Hz\n", (unsigned)numbers[1], (unsigned)numbers[2], (unsigned)numbers[0]);
+    else if (number == NO_TIMING)
+        printf("show nothing: no timing is within the board's limits\n");
+    else
+        printf("show nothing: the standard reading refuses the block with %u\n", (unsigned)number);
+}
+
+/* Hands on the next burst, of no more bytes than are wanted; how many came. */
+static size_t hand_on(FILE *source, uint8_t *state, size_t wanted, uint32_t *told)
+{
+    uint8_t burst[BURST];
+    size_t came = fread(burst, 1, wanted < BURST ? wanted : BURST, source);
+    *told = edid_burst(state, burst, came);
+    return came;
+}
+
 int main(int argc, char **argv)
 {
     FILE *source = argc > 1 ? fopen(argv[1], "rb") : stdin;
@@ -50,13 +74,12 @@ int main(int argc, char **argv)
         perror(argv[1]);
         return 2;
     }
-    uint8_t state[EDID_STATE] = {0}, burst[BURST]; /* the state begins with the bytes that came */
+    uint8_t state[EDID_STATE] = {0}; /* begins with the bytes that came */
     size_t length = 0, wanted = BLOCK, came;
     uint32_t told;
     do { /* once the reading accepts, only the rest of the block is awaited, for its sum */
-        came = fread(burst, 1, wanted - length < BURST ? wanted - length : BURST, source);
+        came = hand_on(source, state, wanted - length, &told);
         length += came;
-        told = edid_burst(state, burst, came);
         if (length == BLOCK && told == EDID_WAITING && state[EXTENSIONS] > 0)
             wanted = 2 * BLOCK;
     } while (came > 0 && (told == EDID_WAITING || (told == 0 && length < BLOCK)));
@@ -66,5 +89,9 @@ int main(int argc, char **argv)
     }
     uint32_t number = edid_burst_number(state);
     print_answer(number, edid_burst_taken(state));
-    return print_checksum(state, length) && number == 0 ? 0 : 1;
+    bool right = print_checksum(state, length);
+    for (; length < BLOCK && came > 0; length += came) /* no later burst changes the answer */
+        came = hand_on(source, state, BLOCK - length, &told);
+    print_pick(state, length < BLOCK ? length : BLOCK);
+    return right && number == 0 ? 0 : 1;
 }

@@ -1,10 +1,11 @@
-/* The crate reading's answers on one EDID block, at once or in bursts, for C on x86-64: link target/staticlib/libexports.a, which
- * `rt staticlib exports` proves and makes.
+/* The crate reading's answers on one EDID block, at once or in bursts, and which timing of it to show, by the standard reading, for C on x86-64: link
+ * target/staticlib/libexports.a, which `rt staticlib exports` proves and makes.
  *
  * Each function reads the bytes that it is handed and nothing else, keeps nothing, and ends for every length and all bytes; edid_burst writes the
- * state, and no other writes anything. The caller promises that these bytes can be read, and the state of edid_burst written, and that nobody else
- * touches them meanwhile. With length 0 nothing is read through the pointer; of no block the answers are 1, 0 and true. That is proved of a
- * pointer that is not null; of a null pointer with length 0 it is tested by tools/test-c. */
+ * state, edid_pick the numbers lent to it, and no other writes anything. The caller promises that these bytes can be read, and the state of edid_burst
+ * and the numbers of edid_pick written, and that nobody else touches them meanwhile. With length 0 nothing is read through the pointer; of no block the
+ * answers are 1, 0 and true, and edid_pick's is 7, or 10. That is proved of a pointer that is not null; of a null pointer with length 0 it is tested by
+ * tools/test-c. */
 #ifndef EDID_H
 #define EDID_H
 #include <stdbool.h>
@@ -51,6 +52,30 @@ uint32_t edid_burst(uint8_t *state, const uint8_t *burst, size_t length);
  * once a burst told an answer they do not change. */
 uint32_t edid_burst_number(const uint8_t *state);
 size_t edid_burst_taken(const uint8_t *state);
+
+/* ---- which timing to show
+ *
+ * A board can show a timing that is not interlaced, has active pixels and lines, and whose clock, pixels across and lines down are within the board's
+ * limits; what equals a limit is within it. The caller lends count numbers, apart from the block; the first EDID_NUMBERS tell the timing. */
+enum { EDID_NUMBERS = 14 };
+
+/* Of the detailed timings of the block, by the standard reading and in the order of its slots, picks one that can be shown: the one with the most active
+ * pixels in all, and of several with as many the first. The clock is in Hz. A limit of pixels or lines above 65535 does not fit its type: C would cut it
+ * to its last 16 bits, so pass 65535; no block has more than 4095.
+ * 0 where one is picked; then the numbers are those of the line `detailed` of the standard listing, without size, border and slot:
+ *     0           the clock in Hz
+ *     1, 2        active pixels across, active lines down
+ *     3, 4        front porch across, down
+ *     5, 6        sync across, down
+ *     7, 8        back porch across, down
+ *     9           whether it is interlaced, so 0
+ *     10          stereo: 0 none, 1 sequential with right sync, 2 with left, 3 interleaved lines, right even, 4 left even, 5 four ways, 6 side by side
+ *     11, 12, 13  sync: 0 analog composite or 1 bipolar, then 1 if serrated, then 1 if on all three lines, 0 if on green; 2 digital composite, then 1 if
+ *                 serrated, then polarity; 3 digital separate, then horizontal polarity, then vertical; of polarities 1 is positive
+ * and those behind keep their values. Where it is not 0, all numbers keep their values, and it is the first of these that applies: 10 fewer than 14 numbers
+ * are lent; 7 the length is not 128; 2 another header; 8 the bytes do not add up to zero; 9 the version is not 1; then, slot after slot, 3 no timing in the
+ * first, 4 no 0x0a (in GTF: no 0x00) where one is due, 5 no 0x20 (behind a text: nor 0x00), 6 a back porch below zero; 14 no timing can be shown. */
+uint32_t edid_pick(const uint8_t *block, size_t length, uint32_t clock, uint16_t across, uint16_t down, uint32_t *numbers, size_t count);
 
 #ifdef __cplusplus
 }

@@ -1,5 +1,5 @@
--- What is shown of the definitions: worked cases, demand 3, and what else holds of every answer of either reading; of sums of parts, of bursts, and of
--- how many bytes are taken.
+-- What is shown of the definitions: worked cases, demand 3, and what else holds of every answer of either reading; of sums of parts, of bursts, of
+-- how many bytes are taken, and of picks.
 pub mod Specimen
 pub mod Panels
 pub mod Cases
@@ -9,3 +9,4 @@ pub mod Standard
 pub mod Sums
 pub mod Bursts
 pub mod Bytes
+pub mod Picks

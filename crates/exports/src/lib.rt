@@ -1,14 +1,26 @@
 // The answers for the controller's C code: a `&[u8]` is a pointer and a length there, a `&[u8; 146]` a pointer.
 use bursts::Report;
+use picking::Choice;
+use picking::Limits;
+use standard_record::DetailedTimings;
+use standard_record::Verdict;
 use steps::End;
+use timing::Lines;
+use timing::Pixels;
 ghost use mathlib.Core.Path.{_≡_};
+ghost use Prim.Native.Nat.{_≤_};
 ghost use lib.Dec.{eqb};
+ghost use lib.ListN.{length};
 ghost use Rattle.steps.specs.Leaves.{ended};
 ghost use Rattle.steps.specs.Answers.{taken};
 ghost use Rattle.sums.specs.Sum.{byteSum};
 ghost use Rattle.crate_reading.specs.Reading.{answer};
 ghost use Rattle.bursts.specs.Bursts.{told, held, stage, standing, grow};
+ghost use Rattle.standard_reading.specs.Block.{standardOf};
+ghost use Rattle.picking.specs.Best.{listed};
+ghost use Rattle.picking.specs.Score.{choice};
 ghost use Rattle.exports.specs.Numbers.{numberOf, numberTold};
+ghost use Rattle.exports.specs.Pick.{shown, pickOf};
 
 fn number_of(end: End) -> u32
     ensures { λ r. ⌜ r ≡ numberOf (ended {A = Unit} tt end) ⌝ }
@@ -83,4 +95,56 @@ pub extern "C" fn edid_burst_taken(state: &[u8; 146]) -> usize
     ensures { λ r. ⌜ r ≡ taken (answer (held (now (state .entry)))) ⌝ }
 {
     taken_by(bursts::end(state))
+}
+
+// ---- of the timing to show
+
+// The chosen timing's numbers are written over the first fourteen.
+fn show(limits: Limits, list: DetailedTimings, numbers: &mut [u32]) -> u32
+    requires { ⌜ 14 ≤ length (now numbers) ⌝ }
+    ensures { λ r. ⌜ (r, now (numbers .exit)) ≡ shown list (now (numbers .entry)) (choice limits (listed list)) ⌝ }
+{
+    match picking::choose(limits, list) {
+        Choice::Refused(number) => number as u32,
+        Choice::Index(i) => {
+            let items = list.items;
+            let h = items[i];
+            let its = timing_numbers::numbers_of(h.timing);
+            let mut k = 0;
+            while k < 14 {
+                numbers[k] = its[k];
+                k += 1;
+            }
+            0
+        }
+    }
+}
+
+// By the standard reading and the board's limits: 0 and the numbers of the timing to show; or its refusal, 14 where no timing qualifies, 10 where
+// fewer than fourteen numbers are lent, and these stay as they are.
+#[no_mangle]
+pub extern "C" fn edid_pick(
+    block: &[u8],
+    clock: u32,
+    across: u16,
+    down: u16,
+    numbers: &mut [u32],
+) -> u32
+    ensures { λ r. ⌜ (r, now (numbers .exit)) ≡ pickOf (record { clock = clock; across = record { 0 = across }; down = record { 0 = down } })
+        (standardOf (now (block .entry))) (now (numbers .entry)) ⌝ }
+{
+    if numbers.len() < 14 {
+        return 10;
+    }
+    let limits = Limits {
+        clock,
+        across: Pixels(across),
+        down: Lines(down),
+    };
+    let reading = standard_reading::read_standard(block);
+    let end = reading.end;
+    match end {
+        Verdict::Refused(f) => f.number as u32,
+        Verdict::Accepted => show(limits, reading.edid.timings.detailed, numbers),
+    }
 }

@@ -134,7 +134,7 @@ pub fn axes(out: &mut [u8; 4096], at: usize, clock: u32, a: Across, d: Down) -> 
     page::field16(out, n, d.back.0)
 }
 
-fn stereo_number(t: StereoType) -> u8
+pub fn stereo_number(t: StereoType) -> u8
     ensures { λ r. ⌜ r ≡ lines.stereo t ⌝ }
 {
     match t {

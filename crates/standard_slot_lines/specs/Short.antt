@@ -40,7 +40,7 @@ timing-length d =
       sync-length (d .sync),
     ))
 
-detailed-length : (h : HeldTiming) → length (detailedLine h) ≤ 112
+pub detailed-length : (h : HeldTiming) → length (detailedLine h) ≤ 112
 unfolding detailedLine flat
 detailed-length h = simp length-append (omega (arith, timing-length (h .timing), field16-length (h .slot)))
 

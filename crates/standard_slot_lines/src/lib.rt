@@ -15,7 +15,7 @@ ghost use Rattle.standard_slot_lines.specs.Lines as lines;
 
 // ---- detailed timings
 
-fn line_number(t: SyncLine) -> u8
+pub fn line_number(t: SyncLine) -> u8
     ensures { λ r. ⌜ r ≡ lines.line t ⌝ }
 {
     match t {
@@ -69,7 +69,7 @@ pub fn timing_fields(out: &mut [u8; 4096], at: usize, d: DetailedTiming) -> usiz
     sync(out, n, kind)
 }
 
-fn detailed_line(out: &mut [u8; 4096], at: usize, t: HeldTiming) -> usize
+pub fn detailed_line(out: &mut [u8; 4096], at: usize, t: HeldTiming) -> usize
     ensures { λ r. ⌜ page (now (out .exit)) r ≡ page (now (out .entry)) at ▷ lines.detailedLine t ⌝ }
 {
     let mut n = timing_fields(out, at, t.timing);

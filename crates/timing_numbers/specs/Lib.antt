@@ -1,0 +1,3 @@
+-- What the contracts of `timing_numbers` cite, and that it is what the listing has.
+pub mod Numbers
+pub mod Listed
