@@ -1,7 +1,7 @@
 -- Worked lines: antt computes what is asked, and what is printed.
 use Prim.Native.Nat.{ℕ}
 use mathlib.Core.Path.{_≡_, refl}
-use mathlib.Core.List.{List, []}
+use mathlib.Core.List.{[]}
 use Rattle.page.specs.Words.{text, decimalIn, field8, flat}
 use Rattle.timing.specs.Axis.{pixels, lines}
 use Rattle.standard_record.specs.Filler.{blank}

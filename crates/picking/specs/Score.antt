@@ -1,5 +1,5 @@
 -- The chooser's answer as a computation: the first of the greatest scores. It is the one answer that `Chooses` allows.
-use Prim.Native.Nat.{ℕ, zero, suc, _*_, _<_, _≤_}
+use Prim.Native.Nat.{ℕ, zero, suc, _*_, _<_}
 use mathlib.Core.Path.{_≡_, refl, sym, _∙_}
 use mathlib.Core.Bool.{Bool, true, false, cond}
 use mathlib.Core.List.{List}
@@ -8,7 +8,7 @@ use native.Mathlib.Omega.{arith}
 use lib.Dec.{ltb, eqb}
 use borrow.Author.Tests.{ltb-false, le-ltb, eqb-true, eqb-false}
 use Rattle.standard_record.specs.declared.DetailedTiming.{DetailedTiming}
-use Rattle.picking.specs.Best.{Qualifies, area, Best, Chooses}
+use Rattle.picking.specs.Best.{Qualifies, area, Chooses}
 use Rattle.picking.specs.First.{greatest, place, no-greater, reached, earliest}
 use Rattle.picking.specs.declared.Limits.{Limits}
 use Rattle.picking.specs.declared.Choice.{Choice}

@@ -1,5 +1,4 @@
 -- The fourteen numbers are those of the timing's line in the listing, in its order, without the four of its size and its border.
-use Prim.Native.Nat.{ℕ}
 use mathlib.Core.Path.{_≡_, refl}
 use mathlib.Core.Bool.{Bool, true, false}
 use mathlib.Core.List.{[], _∷_, append-assoc, append-nil}

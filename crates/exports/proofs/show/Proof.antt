@@ -1,11 +1,11 @@
 -- `exports::show` meets its contract. The invariant: the first k of the timing's numbers are pasted over those lent. Assumes nothing.
-use Prim.Native.Nat.{_+_, _-_, _≤_}
-use mathlib.Core.Path.{_≡_, refl, sym, ap, _∙_}
+use Prim.Native.Nat.{_-_, _≤_}
+use mathlib.Core.Path.{_≡_, sym, ap, _∙_}
 use native.Mathlib.Nat.{zero-add}
 use native.Mathlib.Numerals.{add-one}
 use native.Mathlib.Omega.{arith}
 use lib.ListN.{length, set, getD}
-use lib.Seq.{paste, paste-zero, paste-suc}
+use lib.Seq.{paste, paste-suc}
 use borrow.Author.Needs.{needs}
 use Rattle.picking.specs.Entry.{below-four}
 use Rattle.picking.specs.declared.Choice.the-variants.{Refused}

@@ -1,5 +1,4 @@
 -- `pick_lines::is_digit` meets its contract. Assumes nothing.
-use borrow.Author.Needs.{needs}
 use borrow.Author.Tests.{lt-ltb, le-ltb}
 use Rattle.pick_lines.proofs.is_digit.Statement.{statement}
 use Rattle.pick_lines.proofs.is_digit.Tie as tie
