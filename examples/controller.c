@@ -1,7 +1,7 @@
 /* What a controller does with the block that a panel sends: it hands on each burst as it comes, and prints what a service desk wants to
  * read. A slot of white points with one point takes 23 bytes, so a whole block may be too short: then the controller takes the
- * extension too, if byte 126 says that there is one. Then it asks which timing the board can show; that is by the standard reading, of the whole block,
- * so what the first answer did not wait for is awaited now.
+ * extension too, if byte 126 says that there is one. Which timing the board can show is by the standard reading, of the whole block, so that is awaited
+ * though the first answer may be known before.
  *     controller [FILE]       as /sys/class/drm/card0-HDMI-A-1/edid; standard input where no FILE is named
  * Exit status: 0 accepted and the checksum is right, 1 not so, 2 nothing could be read. */
 #include <stdio.h>
@@ -20,7 +20,7 @@ static const char *sentence(uint32_t number, size_t taken)
     switch (number) {
     case 1: return "the block ends too early; read it again, then look at cable and connector";
     case 2: return "this is no EDID, its first eight bytes are others; look at what is plugged in";
-    case 3: return "the first slot holds no timing, so no mode is preferred; set one by hand";
+    case 3: return "the first slot holds no timing for this reading; see the standard reading, or set a mode by hand";
     case 4: return "a descriptor lacks the byte that closes it" OR_LATE;
     case 5: return "a descriptor is not filled up with spaces" OR_LATE;
     case 6: return "a timing leaves no room for its back porch; do not drive the panel with it";
@@ -51,20 +51,11 @@ static void print_pick(const uint8_t *block, size_t length)
     uint32_t numbers[EDID_NUMBERS];
     uint32_t number = edid_pick(block, length, BOARD_CLOCK, BOARD_ACROSS, BOARD_DOWN, numbers, EDID_NUMBERS);
     if (number == 0)
-        printf("show %u x %u at %u Hz\n", (unsigned)numbers[1], (unsigned)numbers[2], (unsigned)numbers[0]);
+        printf("standard reading: show %u x %u at %u Hz\n", (unsigned)numbers[1], (unsigned)numbers[2], (unsigned)numbers[0]);
     else if (number == NO_TIMING)
-        printf("show nothing: no timing is within the board's limits\n");
+        printf("standard reading: no timing that the board can show\n");
     else
-        printf("show nothing: the standard reading refuses the block with %u\n", (unsigned)number);
-}
-
-/* Hands on the next burst, of no more bytes than are wanted; how many came. */
-static size_t hand_on(FILE *source, uint8_t *state, size_t wanted, uint32_t *told)
-{
-    uint8_t burst[BURST];
-    size_t came = fread(burst, 1, wanted < BURST ? wanted : BURST, source);
-    *told = edid_burst(state, burst, came);
-    return came;
+        printf("standard reading: refused with %u\n", (unsigned)number);
 }
 
 int main(int argc, char **argv)
@@ -74,15 +65,16 @@ int main(int argc, char **argv)
         perror(argv[1]);
         return 2;
     }
-    uint8_t state[EDID_STATE] = {0}; /* begins with the bytes that came */
+    uint8_t state[EDID_STATE] = {0}, burst[BURST]; /* the state begins with the bytes that came */
     size_t length = 0, wanted = BLOCK, came;
     uint32_t told;
-    do { /* once the reading accepts, only the rest of the block is awaited, for its sum */
-        came = hand_on(source, state, wanted - length, &told);
+    do { /* once an answer is told, only the rest of the block is awaited */
+        came = fread(burst, 1, wanted - length < BURST ? wanted - length : BURST, source);
         length += came;
+        told = edid_burst(state, burst, came);
         if (length == BLOCK && told == EDID_WAITING && state[EXTENSIONS] > 0)
             wanted = 2 * BLOCK;
-    } while (came > 0 && (told == EDID_WAITING || (told == 0 && length < BLOCK)));
+    } while (came > 0 && (told == EDID_WAITING || length < BLOCK));
     if (ferror(source)) {
         perror("controller");
         return 2;
@@ -90,8 +82,6 @@ int main(int argc, char **argv)
     uint32_t number = edid_burst_number(state);
     print_answer(number, edid_burst_taken(state));
     bool right = print_checksum(state, length);
-    for (; length < BLOCK && came > 0; length += came) /* no later burst changes the answer */
-        came = hand_on(source, state, BLOCK - length, &told);
     print_pick(state, length < BLOCK ? length : BLOCK);
     return right && number == 0 ? 0 : 1;
 }

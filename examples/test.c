@@ -137,7 +137,6 @@ static const struct question of_one[] = {
 /* Of the specimen with the other timing in a later slot. */
 static const struct question of_two[] = {
     {"as many pixels, slot", 50000000, 800, 800, 14, 0, own},
-    {"as many pixels, one above the clock, slot", 49999999, 800, 800, 14, 0, own},
     {"the other alone, slot", 50000000, 799, 800, 14, 0, upright},
     {"the first alone, slot", 50000000, 800, 799, 14, 0, own},
     {"neither, slot", 50000000, 799, 799, 14, 14, NULL},
@@ -174,13 +173,15 @@ static void put(uint8_t *block, size_t at, const uint8_t *bytes, size_t size)
 
 static void test_picks(const uint8_t *specimen)
 {
-    uint8_t block[LONGER] = {0}, one_more = 0x21;
+    uint8_t block[LONGER] = {0}, one_more = 0x21, one_wider = 0x59; /* 801 and 601 pixels in a line */
     memcpy(block, specimen, BLOCK);
     expect_any("null, length", 0, NULL, 0, 7, NULL);
     for (size_t length = 0; length <= LONGER; length++)
         expect_any("cut at", length, block, length, length == BLOCK ? 0 : 7, length == BLOCK ? own : NULL);
     for (size_t i = 0; i < sizeof of_one / sizeof *of_one; i++)
         expect_pick(FIRST, block, BLOCK, of_one[i]);
+    picks++;
+    failed += edid_pick(block, BLOCK, UINT32_MAX, UINT16_MAX, UINT16_MAX, NULL, 0) != 10;
     for (size_t i = 0; i < sizeof altered / sizeof *altered; i++) {
         put(block, altered[i].at, altered[i].bytes, altered[i].size);
         expect_any(altered[i].what, altered[i].at, block, BLOCK, altered[i].number, NULL);
@@ -192,11 +193,15 @@ static void test_picks(const uint8_t *specimen)
         put(block, at, upright_slot, SLOT);
         for (size_t i = 0; i < sizeof of_two / sizeof *of_two; i++)
             expect_pick(at, block, BLOCK, of_two[i]);
+        put(block, at + 2, &one_wider, 1);
+        expect_pick(at, block, BLOCK, (struct question){"the later larger and above the clock, slot", 49999999, 800, 800, 14, 0, own});
         put(block, FIRST, upright_slot, SLOT); /* the two change places */
         put(block, at, specimen + FIRST, SLOT);
         expect_any("as many pixels, the other first, slot", at, block, BLOCK, 0, upright);
+        expect_pick(at, block, BLOCK, (struct question){"the first above the clock, slot", 49999999, 800, 800, 14, 0, own});
         put(block, at + 2, &one_more, 1);
         expect_any("a pixel more in each line, slot", at, block, BLOCK, 0, wider);
+        expect_pick(at, block, BLOCK, (struct question){"the later a pixel too wide, slot", 50000000, 800, 800, 14, 0, upright});
         memcpy(block, specimen, BLOCK);
     }
 }

@@ -37,6 +37,12 @@ class Pick:
         """What C gets: neither size nor border nor slot."""
         return [number for index in self.order[:1] for number in self.timings[index][:9] + self.timings[index][13:18]]
 
+    def accepts(self, indexes):
+        """What the program `pick_check` prints."""
+        if self.place:
+            return self.lines()
+        return line("accepts", *(int(self.order[:1] == [index]) for index in range(indexes))) + "\n"
+
     def lines(self):
         """What the program `pick` prints."""
         if self.number:

@@ -1,12 +1,13 @@
 -- What a C program learns from the number that `edid_pick` answers, whatever the block, the limits and the numbers lent.
 use Prim.Native.Nat.{ℕ, _<_, _≤_}
-use mathlib.Core.Path.{_≡_, refl, ap}
+use mathlib.Core.Path.{_≡_, refl, ap, _∙_}
 use mathlib.Core.List.{List, [], _∷_, _++_}
 use mathlib.Core.Logic.{_↔_}
 use native.Mathlib.Omega.{arith}
 use lib.ListN.{length, drop, replicate}
+use Rattle.steps.specs.declared.Refusal.{Refusal}
 use Rattle.timing.specs.Axis.{pixels, lines}
-use Rattle.standard_record.specs.declared.Verdict.the-variants.{Accepted}
+use Rattle.standard_record.specs.declared.Verdict.the-variants.{Accepted, Refused}
 use Rattle.standard_reading.specs.Block.{standardOf}
 use Rattle.picking.specs.Best.{Best, NoneQualifies}
 use Rattle.picking.specs.declared.Limits.{Limits}
@@ -38,6 +39,10 @@ module _ (l : Limits) (s lent : List ℕ) where
       by a (unread f h e) z = absurd (omega (arith, z, refusal-2-to-9 s f e))
       by a (none h e n) z = absurd (omega (arith, z))
       by a (best i b h e) z = (i, (b, refl))
+
+  -- and it is 0 wherever there is a best
+  pub best-is-zero : (i : ℕ) → Best l (timingsIn (standardOf s)) i → 14 ≤ length lent → standardOf s .end ≡ Accepted → number ≡ 0
+  best-is-zero i b h e = ap (λ a. a .0) (picked-exactly l (standardOf s) lent (0, numbersOf (b .timing) ++ drop 14 lent) .1 (best i b h e))
 
   -- any other number: all were kept
   pub nonzero-keeps : (number ≡ 0 → ⊥) → after ≡ lent
@@ -71,6 +76,20 @@ module _ (l : Limits) (s lent : List ℕ) where
       by a (too-few h) z = h
       by a (unread f h e) z = absurd (omega (arith, z, refusal-2-to-9 s f e))
       by a (none h e n) z = absurd (omega (arith, z))
+      by a (best i b h e) z = absurd (omega (arith, z))
+
+  -- 2 to 9: the reading's refusal
+  pub refused-exactly : (n : ℕ) → 2 ≤ n → n ≤ 9
+      → number ≡ n ↔ ((14 ≤ length lent) × ((f : Refusal) × ((standardOf s .end ≡ Refused f) × (f .number ≡ n))))
+  refused-exactly n low high = (
+    by (pickOf l (standardOf s) lent) meant,
+    λ h. ap (λ a. a .0) (picked-exactly l (standardOf s) lent (h .1 .0 .number, lent) .1 (unread (h .1 .0) (h .0) (h .1 .1 .0))) ∙ h .1 .1 .1,
+  )
+    where
+      by : (a : ℕ × List ℕ) → Meant a → a .0 ≡ n → (14 ≤ length lent) × ((f : Refusal) × ((standardOf s .end ≡ Refused f) × (f .number ≡ n)))
+      by a (too-few h) z = absurd (omega (arith, z))
+      by a (unread f h e) z = (h, (f, (e, z)))
+      by a (none h e m) z = absurd (omega (arith, z))
       by a (best i b h e) z = absurd (omega (arith, z))
 
 -- worked: the specimen's record, of which its only timing equals each limit, and fifteen numbers lent

@@ -32,9 +32,12 @@ judgedLines l ts (Verdict.Refused f) = refuseLine f
 unfoldable pub readingLines : Limits → StandardReading → List ℕ
 readingLines l t = judgedLines l (t .edid .timings .detailed) (t .end)
 
+abbrev pub badLine : List ℕ
+badLine = text "limits: the first line has to be three decimal numbers with one space between, as 165000000 1920 1200: the highest clock in Hz, the most pixels across, the most lines; at most 4294967295 65535 65535\n"
+
 -- the block is what follows the first line
 unfoldable pub answerTo : List ℕ → Asked → List ℕ
-answerTo s Asked.Nothing = text "limits: the first line has to be three decimal numbers with one space between, as 165000000 1920 1200: the highest clock in Hz, the most pixels across, the most lines; at most 4294967295 65535 65535\n"
+answerTo s Asked.Nothing = badLine
 answerTo s (Asked.Is l block) = readingLines l (standardOf (drop block s))
 
 abbrev pub answer : List ℕ → List ℕ

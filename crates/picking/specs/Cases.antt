@@ -1,13 +1,14 @@
--- Worked cases: of a board with the limits 40 MHz, 800 pixels and 600 lines, each by computing the chooser's answer.
+-- Worked cases, of a board with the limits 40 MHz, 800 pixels and 600 lines: antt computes the chooser's answer.
 use Prim.Native.Nat.{ℕ, _≤_}
 use mathlib.Core.Path.{_≡_}
 use mathlib.Core.Bool.{Bool, true, false}
-use mathlib.Core.List.{List, [], _∷_}
+use mathlib.Core.List.{List, [], _∷_, map}
 use native.Mathlib.Omega.{arith}
 use Rattle.timing.specs.Axis.{pixels, lines}
 use Rattle.standard_record.specs.Filler.{blankTiming}
 use Rattle.standard_record.specs.declared.DetailedTiming.{DetailedTiming}
-use Rattle.picking.specs.Best.{Best, NoneQualifies, Accepts}
+use Rattle.standard_record.specs.declared.DetailedTimings.{DetailedTimings}
+use Rattle.picking.specs.Best.{Best, NoneQualifies, Accepts, listed}
 use Rattle.picking.specs.Score.{chooses}
 use Rattle.picking.specs.Promises.{one-best, past-the-list}
 use Rattle.picking.specs.declared.Limits.{Limits}
@@ -45,7 +46,7 @@ over-across = chooses board (only (mode 40000000 801 600 false)) .1
 over-down : NoneQualifies board (only (mode 40000000 800 601 false))
 over-down = chooses board (only (mode 40000000 800 601 false)) .1
 
--- the last is interlaced, or has no pixels on an axis
+-- interlaced, or no pixels on an axis
 interlaced-only : NoneQualifies board (only (mode 40000000 800 600 true))
 interlaced-only = chooses board (only (mode 40000000 800 600 true)) .1
 
@@ -76,3 +77,16 @@ last-of-four = chooses board (mode 1 640 480 false ∷ mode 1 801 600 false ∷ 
 -- an index past the list
 past-one : (i : ℕ) (r : Bool) → 1 ≤ i → Accepts board (only (mode 40000000 800 600 false)) i r → r ≡ false
 past-one i r h = past-the-list board (only (mode 40000000 800 600 false)) i r (omega arith)
+
+-- a record's list: a length above its size counts as its size, and what stands past the length does not count
+abbrev list : ℕ → DetailedTimings
+list len = record {
+  items = map (λ t. record { timing = t; slot = 1 }) (mode 1 640 480 false ∷ mode 1 641 480 false ∷ mode 1 642 480 false ∷ mode 1 643 480 false ∷ []);
+  len = len;
+}
+
+said-too-long : Best board (listed (list 18446744073709551615)) 3
+said-too-long = chooses board (listed (list 18446744073709551615))
+
+said-two : Best board (listed (list 2)) 1
+said-two = chooses board (listed (list 2))

@@ -69,7 +69,8 @@ moved-up (suc n) (suc i) zero h = absurd (omega arith)
 moved-up (suc n) (suc i) (suc j) h = omega (arith, moved-up n i j (omega arith))
 
 module _ {A : Type 0} (a : A) (ys : List A) where
-  still-there : (xs : List A) (i : ℕ) (x : A) → At (xs ++ ys) i x → At (xs ++ a ∷ ys) (moved (length xs) i) x
+  -- what stood at an index stands at the moved one
+  pub still-there : (xs : List A) (i : ℕ) (x : A) → At (xs ++ ys) i x → At (xs ++ a ∷ ys) (moved (length xs) i) x
   still-there [] i x h = h
   still-there (y ∷ xs) zero x h = h
   still-there (y ∷ xs) (suc i) x h = still-there xs i x h
@@ -81,7 +82,7 @@ module _ {A : Type 0} (a : A) (ys : List A) where
   was-there (y ∷ xs) zero x new h = (0, (refl, h))
   was-there (y ∷ xs) (suc j) x new h = let w = was-there xs j x new h in (suc (w .0), (ap suc (w .1 .0), w .1 .1))
 
--- the same timing is picked, wherever the other was put in
+-- the same timing is picked, by `still-there`, wherever the other was put in
 pub added : (l : Limits) (xs ys : List DetailedTiming) (t : DetailedTiming) → (Qualifies l t → ⊥) → (c : Choice)
     → Chooses l (xs ++ ys) c → Chooses l (xs ++ t ∷ ys) (movedPick (length xs) c)
 added l xs ys t not (Refused n) h = (h .0, λ j u k q. let w = was-there t ys xs j u (λ e. not (rw e q)) k in h .1 (w .0) u (w .1 .1) q)

@@ -22,7 +22,7 @@ syncNumbers (BipolarAnalogComposite serrated l) = record { kind = 1; first = dig
 syncNumbers (DigitalComposite serrated p) = record { kind = 2; first = digit serrated; second = polarity p }
 syncNumbers (DigitalSeparate horizontal vertical) = record { kind = 3; first = polarity horizontal; second = polarity vertical }
 
--- in the order of its line in the listing, without its size and its border
+-- in the order of its line in the listing, without its size, its border and its slot
 abbrev pub numbersOf : DetailedTiming → List ℕ
 numbersOf t =
     t .clock ∷

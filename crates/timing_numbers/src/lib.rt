@@ -58,7 +58,7 @@ fn wide(x: u16) -> u32
     x as u32
 }
 
-// In the order of its line in the listing, without its size and its border.
+// In the order of its line in the listing, without its size, its border and its slot.
 pub fn numbers_of(t: DetailedTiming) -> [u32; 14]
     ensures { λ r. ⌜ r ≡ numbersOf t ⌝ }
 {
