@@ -27,21 +27,19 @@ numberFrom top end from s = numberIn top end from 0 from (drop from s)
 
 -- ---- the line
 
-abbrev pub closed : ℕ → ℕ → Number → Asked
-closed clock across Number.Nothing = Asked.Nothing
-closed clock across (Number.Is down next) = Asked.Is (record { clock = clock; across = pixels across; down = lines down }) next
+-- what is asked by a number and what follows it; nothing where there is none
+infixr 20 _then_
+abbrev pub _then_ : Number → (ℕ → ℕ → Asked) → Asked
+Number.Nothing then f = Asked.Nothing
+Number.Is value next then f = f value next
 
-abbrev pub thenDown : List ℕ → ℕ → Number → Asked
-thenDown s clock Number.Nothing = Asked.Nothing
-thenDown s clock (Number.Is across next) = closed clock across (numberFrom 65535 10 next s)
-
-abbrev pub thenAcross : List ℕ → Number → Asked
-thenAcross s Number.Nothing = Asked.Nothing
-thenAcross s (Number.Is clock next) = thenDown s clock (numberFrom 65535 32 next s)
-
--- the limits and where the block begins
+-- the limits, and where the block begins
 abbrev pub askedIn : List ℕ → Asked
-askedIn s = thenAcross s (numberFrom 4294967295 32 0 s)
+askedIn s =
+    numberFrom 4294967295 32 0 s then λ clock at.
+    numberFrom 65535 32 at s then λ across at.
+    numberFrom 65535 10 at s then λ down at.
+    Asked.Is (record { clock = clock; across = pixels across; down = lines down }) at
 
 -- ---- for the proofs of the code
 

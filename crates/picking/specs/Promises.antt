@@ -40,12 +40,13 @@ module _ (l : Limits) (ts : List DetailedTiming) where
   pub refused-exactly : (c : Choice) → Chooses l ts c → (c ≡ Refused 14 → NoneQualifies l ts) × (NoneQualifies l ts → c ≡ Refused 14)
   refused-exactly c h = (λ e. (rw e at h) .1, λ none. one-choice c (Refused 14) h (refl, none))
 
--- an index past the list is not accepted
+-- what stands at an index stands within the list
 pub inside : {A : Type 0} (xs : List A) (i : ℕ) (x : A) → At xs i x → suc i ≤ length xs
 inside [] i x h = absurd h
 inside (y ∷ ys) zero x h = omega arith
 inside (y ∷ ys) (suc i) x h = omega (arith, inside ys i x h)
 
+-- so an index past it is not accepted
 pub past-the-list : (l : Limits) (ts : List DetailedTiming) (i : ℕ) (r : Bool) → length ts ≤ i → Accepts l ts i r → r ≡ false
 past-the-list l ts i true h a = absurd (omega (arith, inside ts i (a .timing) (a .there)))
 past-the-list l ts i false h a = refl
