@@ -79,9 +79,9 @@ module _ (l : Limits) (s lent : List ℕ) where
       by a (best i b h e) z = absurd (omega (arith, z))
 
   -- 2 to 9: the reading's refusal
-  pub refused-exactly : (n : ℕ) → 2 ≤ n → n ≤ 9
+  pub two-to-nine-exactly : (n : ℕ) → 2 ≤ n → n ≤ 9
       → number ≡ n ↔ ((14 ≤ length lent) × ((f : Refusal) × ((standardOf s .end ≡ Refused f) × (f .number ≡ n))))
-  refused-exactly n low high = (
+  two-to-nine-exactly n low high = (
     by (pickOf l (standardOf s) lent) meant,
     λ h. ap (λ a. a .0) (picked-exactly l (standardOf s) lent (h .1 .0 .number, lent) .1 (unread (h .1 .0) (h .0) (h .1 .1 .0))) ∙ h .1 .1 .1,
   )
