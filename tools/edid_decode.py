@@ -1,5 +1,5 @@
-"""Holds the readings of a folder of blocks to edid-decode: timings, texts and range limits of the first 128 bytes of each file, or video codes
-and timings of the second 128, a CTA-861 extension."""
+"""Holds the readings of a folder of blocks to edid-decode: timings, texts, range limits and what revision 4 tells, depth, interface, encodings, ratio and
+model year, of the first 128 bytes of each file, or video codes and timings of the second 128, a CTA-861 extension."""
 import collections
 import os
 import re
@@ -11,11 +11,23 @@ ESTABLISHED = """800x600 60, 800x600 56, 640x480 75, 640x480 72, 640x480 67, 640
 1024x768 70, 1024x768 60, 1024x768i 87, 832x624 75, 800x600 75, 800x600 72, 1152x870 75""".split(",")
 TEXTS = {"Display Product Name": "name", "Alphanumeric Data String": "text", "Display Product Serial Number": "serial"}
 CLASSES = {"GTF": "none", "Secondary GTF": "gtf", "Bare Limits": "other 1", "CVT": "other 4"}
+# of revision 4: interfaces and encodings by their codes, and how edid-decode tells of each fact; of a reserved depth it tells nothing
+INTERFACES = dict(enumerate(("not defined", "DVI", "HDMI-a", "HDMI-b", "MDDI", "DisplayPort")))
+ENCODINGS = {"e0": "RGB 4:4:4", "e1": "RGB 4:4:4, YCrCb 4:4:4", "e2": "RGB 4:4:4, YCrCb 4:2:2", "e3": "RGB 4:4:4, YCrCb 4:4:4, YCrCb 4:2:2"}
+TOLD = {
+    r"(?:Bits per primary color channel:|Color depth is) (\w+)": "depth",
+    r"Unknown interface: (0x..)": "interface",
+    r"Digital interface is (not defined)": "interface",
+    r"(\S+) interface": "interface",
+    r"Supported color formats: (.*)": "encodings",
+    r"Aspect ratio: (\S+) \(.*\)": "ratio",
+    r"Model year: (\d+)": "model",
+}
 
 
 # the 128 bytes that end there, where edid-decode tells of them, the kinds of facts that are compared, where not all are, and names
 Part = collections.namedtuple("Part", "end title kinds facts reading")
-BASE = Part(128, "Block 0", None, "timings, texts and ranges", "standard reading")
+BASE = Part(128, "Block 0", None, "timings, texts, ranges and facts of revision 4", "standard reading")
 EXTENSION = Part(256, "Block 1, CTA-861", ("video", "detailed"), "video codes and timings", "extension")
 
 
@@ -94,7 +106,21 @@ def our_facts(listing, block):
             low, high, low_line, high_line, clock = map(int, words[:5])
             limit = " ".join(words[5:7]) if words[5] == "other" else words[5]
             facts.append((kind, f"{low}-{high} Hz {low_line // 1000}-{high_line // 1000} kHz {clock // 10**6} MHz {limit}", ""))
+        else:
+            facts += ((what, word, "") for what, word in our_newer(kind, words))
     return facts
+
+
+def our_newer(kind, words):
+    """What a line tells that only revision 4 has."""
+    if kind == "digital" and len(words) == 2:
+        depth, code = words[0], int(words[1])
+        return [("depth", depth)] * (depth != "reserved") + [("interface", INTERFACES.get(code, f"0x{code:02x}"))]
+    if kind == "dpms" and words[3] in ENCODINGS:
+        return [("encodings", ENCODINGS[words[3]])]
+    if kind == "size" and words[0] == "ratio":
+        return [("ratio", f"{int(words[1]) / int(words[2]):.2f}")]
+    return [("model", words[6])] if kind == "product" and words[5] == "model" else []
 
 
 def our_code(byte):
@@ -111,7 +137,7 @@ def our_timing(clock, width, height, hfront, vfront, hsync, vsync, hback, vback,
 def their_facts(file, part):
     text = subprocess.run(["edid-decode", "-s", "-"], input=file, stdout=subprocess.PIPE, stderr=subprocess.DEVNULL).stdout.decode("latin-1")
     facts, section, timing = [], "", None
-    for line in text.partition(f"\n{part.title}")[2].partition("\n----")[0].splitlines():
+    for line in f"\n{text}".partition(f"\n{part.title}")[2].partition("\n----")[0].splitlines():
         if re.match(r" {2}\S", line):
             section = line.strip()
         if found := re.match(r" +DTD +\d+: +(\d+x\d+i?) .* (\d+)\.(\d{6}) MHz(.*)", line):
@@ -132,6 +158,8 @@ def their_facts(file, part):
             facts.append((TEXTS.get(found[1], found[1]), found[2], ""))
         elif found := re.match(r" +Monitor ranges \((.*)\): (\d+-\d+) Hz V, (\d+-\d+) kHz H(?:, max dotclock (\d+) MHz)?", line):
             facts.append(("range", f"{found[2]} Hz {found[3]} kHz {found[4] or 0} MHz {CLASSES.get(found[1], found[1])}", ""))
+        else:
+            facts += ((kind, found[1], "") for told, kind in TOLD.items() if (found := re.fullmatch(told, line.strip())))
     return [fact for fact in facts if not part.kinds or fact[0] in part.kinds]
 
 

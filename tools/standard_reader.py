@@ -1,5 +1,5 @@
 #!/usr/bin/env python3
-"""The standard reading of EDID blocks, written from document 01 and orders 1, 2 and 4 of document 02 alone: the expected output of the replay.
+"""The standard reading of EDID blocks, written from document 01 and orders 1, 2, 4 and 13 of document 02 alone: the expected output of the replay.
 
 Standard input holds frames: a length of two bytes, the low one first, then that many bytes. Standard output gets each frame's
 listing, then `--`.
@@ -12,6 +12,9 @@ RATIOS = ((16, 10), (4, 3), (5, 4), (16, 9))
 # by bits 6, 5 and 0 of a timing's last byte
 STEREO = {(0, 0, 0): 0, (0, 0, 1): 0, (0, 1, 0): 1, (1, 0, 0): 2, (0, 1, 1): 3, (1, 0, 1): 4, (1, 1, 0): 5, (1, 1, 1): 6}
 TEXTS = {0xFC: "name", 0xFE: "text", 0xFF: "serial"}
+# by their codes: the depths of a digital input, and what is added to the minimum and the maximum of a range
+DEPTHS = "undefined 6 8 10 12 14 16 reserved".split()
+OFFSETS = ((0, 0), (0, 0), (0, 255), (255, 255))
 
 
 class Refused(Exception):
@@ -42,13 +45,32 @@ def product(block):
     code = int.from_bytes(block[8:10], "big")
     letters = [code >> shift & 31 for shift in (10, 5, 0)]
     letters = [chr(ord("A") + k - 1) if 1 <= k <= 26 else 0 for k in letters]
-    return line("product", *letters, little(block[10:12]), little(block[12:16]), block[16], block[17] + 1990)
+    week = "model" if block[16] == 0xFF and block[19] >= 4 else block[16]
+    return line("product", *letters, little(block[10:12]), little(block[12:16]), week, block[17] + 1990)
 
 
-def video(byte):
-    if bit(byte, 7):
+def video(byte, revision):
+    if not bit(byte, 7):
+        return line("analog", bits(byte, 6, 5), *flags(byte, 4, 3, 2, 1, 0))
+    if revision < 4:
         return line("digital", bit(byte, 0))
-    return line("analog", bits(byte, 6, 5), *flags(byte, 4, 3, 2, 1, 0))
+    return line("digital", DEPTHS[bits(byte, 6, 4)], bits(byte, 3, 0))
+
+
+def size(across, down, revision):
+    """From revision 4 on one byte alone is a ratio."""
+    if across and down:
+        return line("size", across * 10, down * 10)
+    if revision >= 4 and across:
+        return line("size", "ratio", across + 99, 100)
+    if revision >= 4 and down:
+        return line("size", "ratio", 100, down + 99)
+    return line("size", "none")
+
+
+def dpms(byte, encodings):
+    """Bits 4..3 are the display's type, or its encodings."""
+    return line("dpms", *flags(byte, 7, 6, 5), "e" * encodings + str(bits(byte, 4, 3)), *flags(byte, 2, 1, 0))
 
 
 def gamma(byte):
@@ -125,6 +147,14 @@ def secondary(slot, at):
     return ["other", kind, slot[11:18].hex()]
 
 
+def limits(slot, revision):
+    """The fifth byte is read from revision 4 on."""
+    offsets = slot[4] if revision >= 4 else 0
+    vertical, horizontal = OFFSETS[bits(offsets, 1, 0)], OFFSETS[bits(offsets, 3, 2)]
+    vmin, vmax, hmin, hmax = (rate + more for rate, more in zip(slot[5:9], vertical + horizontal))
+    return vmin, vmax, hmin * 1000, hmax * 1000, slot[9] * 10000000
+
+
 def text(name, part, at):
     length = part.find(0x0A)
     if length < 0:
@@ -147,8 +177,7 @@ def descriptor(slot, at, revision):
     if tag in TEXTS:
         return "descriptor", [text(TEXTS[tag], data, at)]
     if tag == 0xFD:
-        limits = (slot[5], slot[6], slot[7] * 1000, slot[8] * 1000, slot[9] * 10000000)
-        return "descriptor", [line("range", *limits, *secondary(slot, at))]
+        return "descriptor", [line("range", *limits(slot, revision), *secondary(slot, at))]
     if tag == 0x10:
         return "descriptor", []
     return "descriptor", [line("maker" if tag < 0x10 else "undefined", tag, data.hex())]
@@ -170,15 +199,14 @@ def reading(block):
         else:
             kind, entries = descriptor(slot, at, revision)
         lists[kind] += [line(entry, number) for entry in entries]
-    features = block[24]
     return [
         "accept",
         product(block),
         line("version", block[18], revision),
-        video(block[20]),
-        line("size", *((block[21] * 10, block[22] * 10) if block[21] and block[22] else ("none",))),
+        video(block[20], revision),
+        size(block[21], block[22], revision),
         line("gamma", gamma(block[23])),
-        line("dpms", *flags(features, 7, 6, 5), bits(features, 4, 3), *flags(features, 2, 1, 0)),
+        dpms(block[24], revision >= 4 and bit(block[20], 7)),
         chroma(block),
         *lists["white"],
         established(block),

@@ -1,5 +1,5 @@
 #!/usr/bin/env python3
-"""The block that a standard record is written to, by document 01 and orders 3 and 4 of document 02 alone: the expected output of write_replay.
+"""The block that a standard record is written to, by document 01 and orders 3, 4 and 13 of document 02 alone: the expected output of write_replay.
 
 Standard input holds frames, as for tools/standard_reader.py, which reads them: its listing, with the bytes that its texts show, is all that a
 block is made of. Standard output gets for each frame the reader's refusal, or `block` and the 128 bytes in hex, then `--`. Every block that is made
@@ -8,7 +8,7 @@ is read again: its sum has to be zero, and what it shows has to be what was writ
 import sys
 
 from blocks import descriptor, summed, timing
-from standard_reader import HEADER, RATIOS, TEXTS, Refused, frames, line, reading
+from standard_reader import DEPTHS, HEADER, OFFSETS, RATIOS, TEXTS, Refused, frames, line, reading
 
 TAGS = {name: tag for tag, name in TEXTS.items()}
 LISTED = {*TAGS, "white", "standard", "detailed", "range", "maker", "undefined"}  # these lines end with the slot's number
@@ -38,7 +38,8 @@ def product(first, second, third, code, serial, week, year):
     letters = 0
     for letter in (first, second, third):
         letters = letters << 5 | (0 if letter == "0" else ord(letter) - ord("A") + 1)
-    return letters.to_bytes(2, "big") + low_first(int(code), 2) + low_first(int(serial), 4) + bytes([int(week), int(year) - 1990])
+    week = 0xFF if week == "model" else int(week)
+    return letters.to_bytes(2, "big") + low_first(int(code), 2) + low_first(int(serial), 4) + bytes([week, int(year) - 1990])
 
 
 def flags(words):
@@ -51,13 +52,23 @@ def flags(words):
 
 def video(head):
     if "digital" in head:
-        return 0x80 | flags(head["digital"])
+        *depth, last = head["digital"]  # below revision 4 a flag alone
+        return 0x80 | (DEPTHS.index(*depth) << 4 if depth else 0) | int(last)
     level, *rest = head["analog"]
     return int(level) << 5 | flags(rest)
 
 
 def size(words):
-    return bytes(2) if words == ["none"] else bytes(int(word) // 10 for word in words)
+    if words == ["none"]:
+        return bytes(2)
+    if words[0] == "ratio":
+        return ratio(*map(int, words[1:]))
+    return bytes(int(word) // 10 for word in words)
+
+
+def ratio(across, down):
+    """100:100 is landscape."""
+    return bytes([across - 99, 0]) if down == 100 else bytes([0, down - 99])
 
 
 def gamma(word):
@@ -65,7 +76,8 @@ def gamma(word):
 
 
 def features(standby, suspend, lowpower, kind, srgb, preferred, gtf):
-    return flags((standby, suspend, lowpower)) << 5 | int(kind) << 3 | flags((srgb, preferred, gtf))
+    """The display's type is a digit, its encodings are an e and a digit."""
+    return flags((standby, suspend, lowpower)) << 5 | int(kind[-1]) << 3 | flags((srgb, preferred, gtf))
 
 
 def chroma(words):
@@ -106,14 +118,28 @@ def detailed(clock, width, height, hfront, vfront, hsync, vsync, hback, vback, w
     return timing(clock // 10000, (width, height), blanking, (hfront, vfront), (hsync, vsync), (wide, high), (hborder, vborder), last)
 
 
-def limits(vmin, vmax, hmin, hmax, clock, kind, *rest):
-    known = bytes([int(vmin), int(vmax), int(hmin) // 1000, int(hmax) // 1000, int(clock) // 10000000])
+def rates(least, most):
+    """The lowest offset code that fits, and the two bytes."""
+    for code in 0, 2, 3:
+        low, high = least - OFFSETS[code][0], most - OFFSETS[code][1]
+        if 0 <= low <= 255 and 0 <= high <= 255:
+            return code, bytes([low, high])
+
+
+def limits(vmin, vmax, hmin, hmax, clock, *rest):
+    vertical, down = rates(int(vmin), int(vmax))
+    horizontal, across = rates(int(hmin) // 1000, int(hmax) // 1000)
+    data = down + across + bytes([int(clock) // 10000000]) + secondary(*rest)
+    return descriptor(0xFD, data, horizontal << 2 | vertical)
+
+
+def secondary(kind, *rest):
     if kind == "none":
-        return known + b"\0\n      "
+        return b"\0\n      "
     if kind == "gtf":
         start, c, m, k, j = map(int, rest)
-        return known + bytes([2, 0, start // 2000, c]) + low_first(m, 2) + bytes([k, j])
-    return known + bytes([int(rest[0])]) + bytes.fromhex(rest[1])
+        return bytes([2, 0, start // 2000, c]) + low_first(m, 2) + bytes([k, j])
+    return bytes([int(rest[0])]) + bytes.fromhex(rest[1])
 
 
 def slot(entries):
@@ -129,7 +155,7 @@ def slot(entries):
     if name == "detailed":
         return detailed(*map(int, words))
     if name == "range":
-        return descriptor(0xFD, limits(*words))
+        return limits(*words)
     if name in TAGS:
         return descriptor(TAGS[name], (bytes.fromhex(words[0]) + b"\n" + b" " * 12)[:13])
     return descriptor(int(words[0]), bytes.fromhex(words[1]))

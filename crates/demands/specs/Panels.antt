@@ -1,6 +1,7 @@
--- What the standard reading makes of the specimen, and of four more blocks: one with an analog input and as many pairs as there can be, one
--- with a white point and ranges, one with two timings, and one of any revision with a ratio of code 0.
-use Prim.Native.Nat.{ℕ}
+-- What the standard reading makes of the specimen, and of six more blocks: one with an analog input and as many pairs as there can be, one
+-- with a white point and ranges, one with two timings; and of any revision one with a ratio of code 0, one with other bytes from the week to the size, and
+-- one with three ranges.
+use Prim.Native.Nat.{ℕ, _*_}
 use mathlib.Core.Bool.{true, false}
 use mathlib.Core.List.{List, [], _∷_, _++_, map}
 use lib.ListN.{take, drop}
@@ -22,11 +23,18 @@ use Rattle.standard_record.specs.declared.Descriptor.the-variants.{Name, Range,
 use Rattle.standard_record.specs.declared.SecondaryTiming.{SecondaryTiming}
 use Rattle.standard_record.specs.declared.SecondaryTiming.the-variants.{None, GTF}
 use Rattle.standard_record.specs.declared.Sync.the-variants.{DigitalSeparate}
+use Rattle.standard_record.specs.declared.Limits.{Limits}
+use Rattle.standard_record.specs.declared.Week.{Week}
+use Rattle.standard_record.specs.declared.Week.the-variants.{Made}
+use Rattle.standard_record.specs.declared.Depth.the-variants as Depth
 use Rattle.standard_record.specs.declared.VideoInput.{VideoInput}
-use Rattle.standard_record.specs.declared.VideoInput.the-variants.{Analog, Digital}
+use Rattle.standard_record.specs.declared.VideoInput.the-variants.{Analog, Digital, Interface}
+use Rattle.standard_record.specs.declared.ImageSize.{ImageSize}
 use Rattle.standard_record.specs.declared.ImageSize.the-variants as Size
 use Rattle.standard_record.specs.declared.Gamma.the-variants as Gamma
 use Rattle.standard_record.specs.declared.DisplayType.the-variants.{RGBColor}
+use Rattle.standard_record.specs.declared.Kind.{Kind}
+use Rattle.standard_record.specs.declared.Kind.the-variants.{Typed, Encodings}
 use Rattle.standard_record.specs.declared.Verdict.the-variants.{Accepted}
 use Rattle.standard_record.specs.declared.StandardReading.{StandardReading}
 use Rattle.standard_verdict.specs.Verdict.{refusedAt}
@@ -64,7 +72,42 @@ ratioBlock revision sum =
     0x00 ∷ 0x00 ∷ 0x00 ∷ 0xfa ∷ 0x00 ∷ 0xd1 ∷ 0x00 ∷ 0x01 ∷ 0x01 ∷ 0x01 ∷ 0x01 ∷ 0x01 ∷ 0x01 ∷ 0x01 ∷ 0x01 ∷ 0x01 ∷ 0x01 ∷ 0x0a ∷ [])
     ++ drop 90 (take 127 specimen) ++ (sum ∷ [])
 
+-- these bytes for the week, the revision, the input and the size
+unfoldable pub headBlock : ℕ → ℕ → ℕ → ℕ → ℕ → ℕ → List ℕ
+headBlock week revision input width height sum =
+    take 16 specimen ++ (week ∷ 0x1e ∷ 0x01 ∷ revision ∷ input ∷ width ∷ height ∷ []) ++ drop 23 (take 127 specimen) ++ (sum ∷ [])
+
+-- an fd slot: the byte behind the tag, then those of the four rates; 150 MHz, and nothing behind it
+abbrev pub fdSlot : ℕ → ℕ → ℕ → ℕ → ℕ → List ℕ
+fdSlot offsets vmin vmax hmin hmax =
+    0x00 ∷ 0x00 ∷ 0x00 ∷ 0xfd ∷ offsets ∷ vmin ∷ vmax ∷ hmin ∷ hmax ∷ 0x0f ∷ 0x00 ∷ 0x0a ∷ 0x20 ∷ 0x20 ∷ 0x20 ∷ 0x20 ∷ 0x20 ∷ 0x20 ∷ []
+
+unfoldable pub limitsBlock : ℕ → List ℕ → List ℕ → List ℕ → ℕ → List ℕ
+limitsBlock revision a b c sum = take 19 specimen ++ (revision ∷ []) ++ drop 20 (take 72 specimen) ++ a ++ b ++ c ++ (0x00 ∷ sum ∷ [])
+
 -- ---- their records
+
+-- what the revision has a say in
+pub record Head : Type 0 where
+  pub revision : ℕ
+  pub week : Week
+  pub input : VideoInput
+  pub size : ImageSize
+  pub kind : Kind
+
+-- the specimen's, with this revision below 4 and this input
+abbrev pub old : ℕ → VideoInput → Head
+old revision input = record { revision = revision; week = Made 10; input = input; size = Size.Some (record { width = 320; height = 180 }); kind = Typed RGBColor }
+
+-- from revision 4 on
+abbrev pub new : ℕ → Head
+new revision = record {
+  revision = revision;
+  week = Made 10;
+  input = Interface Depth.Undefined 1;
+  size = Size.Some (record { width = 320; height = 180 });
+  kind = Encodings true false;
+}
 
 -- a refusal, with the filler beside it
 abbrev pub blankBeside : ℕ → ℕ → StandardReading
@@ -86,22 +129,22 @@ lobbyTiming active = record {
   sync = DigitalSeparate Positive Positive;
 }
 
--- the specimen's record with this revision, this input and these lists: an array and a length each
-unfoldable pub showing : ℕ → VideoInput → List HeldTiming → ℕ → List HeldPoint → ℕ → List HeldPair → ℕ → List Held → ℕ → StandardReading
-showing revision input timings timed points pointed standards listed entries entered =
+-- the specimen's record with this head and these lists: an array and a length each
+unfoldable pub showing : Head → List HeldTiming → ℕ → List HeldPoint → ℕ → List HeldPair → ℕ → List Held → ℕ → StandardReading
+showing head timings timed points pointed standards listed entries entered =
     record {
       edid = record {
-        product = record { maker = record { 0 = 0x41; 1 = 0x42; 2 = 0x43 }; code = 4660; serial = 1; week = 10; year = 2020 };
-        version = record { version = 1; revision = revision };
+        product = record { maker = record { 0 = 0x41; 1 = 0x42; 2 = 0x43 }; code = 4660; serial = 1; week = head .week; year = 2020 };
+        version = record { version = 1; revision = head .revision };
         display = record {
-          input = input;
-          size = Size.Some (record { width = 320; height = 180 });
+          input = head .input;
+          size = head .size;
           gamma = Gamma.Some 200;
           features = record {
             standby = false;
             suspend = false;
             lowpower = false;
-            kind = RGBColor;
+            kind = head .kind;
             srgb = false;
             preferred = true;
             gtf = false;
@@ -131,14 +174,14 @@ oneTiming active = pad 4 blankDetailed (heldTiming .wrap 1 (lobbyTiming active) 
 
 unfoldable pub specimenShows : ℕ → StandardReading
 specimenShows active =
-    showing 3 (Digital true) (oneTiming active) 1 (pad 6 blankWhite []) 0 (pad 26 blankStandard (heldPair .wrap 0 (mode 1280 5 4 60) ∷ [])) 1 (
+    showing (old 3 (Digital true)) (oneTiming active) 1 (pad 6 blankWhite []) 0 (pad 26 blankStandard (heldPair .wrap 0 (mode 1280 5 4 60) ∷ [])) 1 (
     held .wrap 2 (Name (record { start = 77; len = 5 })) ∷
     held .wrap 3 (MakerDefined 0 (record { start = 95; len = 13 })) ∷
     held .wrap 4 (MakerDefined 0 (record { start = 113; len = 13 })) ∷ []) 3
 
 unfoldable pub fullShows : StandardReading
 fullShows =
-    showing 3 (Analog 1 false (record { serrated = true; green = true; composite = false; separate = true })) (oneTiming 800) 1 (pad 6 blankWhite []) 0 (
+    showing (old 3 (Analog 1 false (record { serrated = true; green = true; composite = false; separate = true }))) (oneTiming 800) 1 (pad 6 blankWhite []) 0 (
     map (heldPair .wrap 0) (
     mode 256 16 10 60 ∷ mode 264 4 3 61 ∷ mode 272 5 4 62 ∷ mode 280 16 9 63 ∷ mode 288 16 10 64 ∷ mode 296 4 3 65 ∷
     mode 304 5 4 66 ∷ mode 312 16 9 67 ∷ [])
@@ -156,21 +199,39 @@ ranged t = Range (record { vmin = 56; vmax = 75; hmin = 30000; hmax = 83000; clo
 
 unfoldable pub rangeShows : StandardReading
 rangeShows =
-    showing 3 (Digital true) (oneTiming 800) 1 (pad 6 blankWhite (heldPoint .wrap 2 (record { index = 2; place = record { x = 322; y = 338 }; gamma = Gamma.None }) ∷ [])) 1
+    showing (old 3 (Digital true)) (oneTiming 800) 1 (pad 6 blankWhite (heldPoint .wrap 2 (record { index = 2; place = record { x = 322; y = 338 }; gamma = Gamma.None }) ∷ [])) 1
     (pad 26 blankStandard (heldPair .wrap 0 (mode 1280 5 4 60) ∷ [])) 1
     (pad 3 blankHeld (held .wrap 3 (ranged (GTF 80000 80 0 128 40)) ∷ held .wrap 4 (ranged None) ∷ [])) 2
 
 unfoldable pub twoShow : StandardReading
 twoShow =
-    showing 3 (Digital true) (pad 4 blankDetailed (heldTiming .wrap 1 (lobbyTiming 800) ∷ heldTiming .wrap 3 (lobbyTiming 800) ∷ [])) 2
+    showing (old 3 (Digital true)) (pad 4 blankDetailed (heldTiming .wrap 1 (lobbyTiming 800) ∷ heldTiming .wrap 3 (lobbyTiming 800) ∷ [])) 2
     (pad 6 blankWhite []) 0 (pad 26 blankStandard (heldPair .wrap 0 (mode 1280 5 4 60) ∷ [])) 1 (pad 3 blankHeld (
     held .wrap 2 (Name (record { start = 77; len = 5 })) ∷
     held .wrap 4 (MakerDefined 0 (record { start = 113; len = 13 })) ∷ [])) 2
 
 -- both pairs with this ratio
-unfoldable pub ratioShows : ℕ → ℕ → ℕ → StandardReading
-ratioShows revision w h =
-    showing revision (Digital true) (oneTiming 800) 1 (pad 6 blankWhite []) 0
+unfoldable pub ratioShows : Head → ℕ → ℕ → StandardReading
+ratioShows head w h =
+    showing head (oneTiming 800) 1 (pad 6 blankWhite []) 0
     (pad 26 blankStandard (heldPair .wrap 0 (mode 1280 w h 60) ∷ heldPair .wrap 2 (mode 1920 w h 60) ∷ [])) 2 (pad 3 blankHeld (
     held .wrap 3 (MakerDefined 0 (record { start = 95; len = 13 })) ∷
     held .wrap 4 (MakerDefined 0 (record { start = 113; len = 13 })) ∷ [])) 2
+
+-- the specimen's lists
+unfoldable pub headShows : Head → StandardReading
+headShows head =
+    showing head (oneTiming 800) 1 (pad 6 blankWhite []) 0 (pad 26 blankStandard (heldPair .wrap 0 (mode 1280 5 4 60) ∷ [])) 1 (
+    held .wrap 2 (Name (record { start = 77; len = 5 })) ∷
+    held .wrap 3 (MakerDefined 0 (record { start = 95; len = 13 })) ∷
+    held .wrap 4 (MakerDefined 0 (record { start = 113; len = 13 })) ∷ []) 3
+
+-- the rates in Hz and in kHz
+abbrev pub rates : ℕ → ℕ → ℕ → ℕ → Limits
+rates vmin vmax hmin hmax = record { vmin = vmin; vmax = vmax; hmin = hmin * 1000; hmax = hmax * 1000; clock = 150000000 }
+
+-- one range in each later slot
+unfoldable pub limitsShow : Head → Limits → Limits → Limits → StandardReading
+limitsShow head a b c =
+    showing head (oneTiming 800) 1 (pad 6 blankWhite []) 0 (pad 26 blankStandard (heldPair .wrap 0 (mode 1280 5 4 60) ∷ [])) 1 (
+    held .wrap 2 (Range a None) ∷ held .wrap 3 (Range b None) ∷ held .wrap 4 (Range c None) ∷ []) 3

@@ -18,9 +18,10 @@ use Rattle.crate_record.specs.Filler.{blank as crateBlank}
 use Rattle.crate_record.specs.Seen.{Seen as CrateSeen, seen}
 use Rattle.crate_record.specs.Single.{gammaOf as crateGammaOf}
 use Rattle.crate_record.specs.declared.EDID.{EDID}
+use Rattle.crate_record.specs.declared.MonitorDescriptor.{MonitorDescriptor}
 use Rattle.crate_head.specs.Head.{header, maker, date, product, version, inputOf as crateInputOf, input, sizeOf, gammaFrom as crateGammaFrom, dpmsOf, dpms, display, color, front}
 use Rattle.crate_text.specs.Text.{scan, padding, skip, span, text}
-use Rattle.crate_descriptors.specs.Descriptors.{spaces, closing, pointOf as cratePointOf, point, ended, second, points, white, stringOf, string, rawOf, raw, tagged, descriptor}
+use Rattle.crate_descriptors.specs.Descriptors.{spaces, closing, pointOf as cratePointOf, point, ended, second, points, white, stringOf, string, rawOf, raw, limitsOf as crateLimitsOf, none, gtfOf, gtf, other, secondary, range, tagged, descriptor}
 use Rattle.crate_timings.specs.Established.{flagsOf as crateFlagsOf, established}
 use Rattle.crate_timings.specs.Pairs.{standardTimingOf, pairOf as cratePairOf, pair, pairs}
 use Rattle.crate_detailed.specs.Detailed.{syncOf as crateSyncOf, fitted, axes, timingOf, timed, detailed}
@@ -35,7 +36,7 @@ use Rattle.standard_parts.specs.Text.{every}
 use Rattle.standard_parts.specs.Head.{inputOf, imageOf, gammaOf, featuresOf}
 use Rattle.standard_parts.specs.Color.{pointOf}
 use Rattle.standard_parts.specs.Timings.{flagsOf, pairOf}
-use Rattle.standard_parts.specs.Descriptors.{secondaryOf, closingRefusal, rangeRefusal}
+use Rattle.standard_parts.specs.Descriptors.{limitsOf, secondaryOf, closingRefusal, rangeRefusal}
 use Rattle.standard_head.specs.Head.{productIn, colorsIn}
 use Rattle.standard_verdict.specs.Verdict.{beforeSlots}
 use Rattle.standard_slots.specs.Said.{pointAt, rangeIn, said}
@@ -129,10 +130,24 @@ gammaBlock = with 75 (0xfb ∷ 0x00 ∷ 0x01 ∷ 0x05 ∷ 0x50 ∷ 0x54 ∷ 0xff
 abbrev ratioBlock : List ℕ
 ratioBlock = set (with 39 (0x00 ∷ []) 0x44) 19 0x02
 
+-- revision 4, and slot 3 holds range limits with offsets
+abbrev revisionBlock : List ℕ
+revisionBlock = set (with 93 (0xfd ∷ 0x0e ∷ 0x38 ∷ 0x2d ∷ 0x1e ∷ 0x2d ∷ 0x0f ∷ 0x00 ∷ 0x0a ∷ 0x20 ∷ 0x20 ∷ 0x20 ∷ 0x20 ∷ 0x20 ∷ 0x20 ∷ []) 0x2e) 19 0x04
+
 -- ---- the entries
 
-abbrev these : Bool → Bool → Bool → Bool → Bool → Marks
-these active dummy index gamma ratio = record { active = active; dummy = dummy; index = index; gamma = gamma; ratio = ratio }
+abbrev these : Bool → Bool → Bool → Bool → Bool → Bool → Marks
+these active dummy index gamma ratio revision =
+    record { active = active; dummy = dummy; index = index; gamma = gamma; ratio = ratio; revision = revision }
+
+-- the highest vertical rate, of a descriptor that has one
+abbrev vmaxOf : MonitorDescriptor → ℕ
+vmaxOf (MonitorDescriptor.RangeLimits l t) = l .vmax
+vmaxOf (MonitorDescriptor.SerialNumber t) = 0
+vmaxOf (MonitorDescriptor.OtherString t) = 0
+vmaxOf (MonitorDescriptor.MonitorName t) = 0
+vmaxOf (MonitorDescriptor.Undefined tag run) = 0
+vmaxOf (MonitorDescriptor.ManufacturerDefined tag run) = 0
 
 -- of the first entry, 0 where there is none
 abbrev first : {A : Type 0} → (A → ℕ) → List A → ℕ
@@ -141,18 +156,19 @@ first f (a ∷ rest) = f a
 
 unfoldable exhibits : List Exhibit
 exhibits =
-    record { marks = these true false false false false; block = activeBlock; look = λ x. length (x .detailed) } ∷
-    record { marks = these false true false false false; block = dummyBlock; look = λ x. x .extensions } ∷
-    record { marks = these false false true false false; block = indexBlock; look = λ x. first (λ p. p .index) (x .points) } ∷
-    record { marks = these false false false true false; block = gammaBlock; look = λ x. first (λ p. toBits binary32 (p .gamma)) (x .points) } ∷
-    record { marks = these false false false false true; block = ratioBlock; look = λ x. first (λ p. toBits binary32 (p .ratio)) (x .standard) } ∷ []
+    record { marks = these true false false false false false; block = activeBlock; look = λ x. length (x .detailed) } ∷
+    record { marks = these false true false false false false; block = dummyBlock; look = λ x. x .extensions } ∷
+    record { marks = these false false true false false false; block = indexBlock; look = λ x. first (λ p. p .index) (x .points) } ∷
+    record { marks = these false false false true false false; block = gammaBlock; look = λ x. first (λ p. toBits binary32 (p .gamma)) (x .points) } ∷
+    record { marks = these false false false false true false; block = ratioBlock; look = λ x. first (λ p. toBits binary32 (p .ratio)) (x .standard) } ∷
+    record { marks = these false false false false false true; block = revisionBlock; look = λ x. first (λ h. vmaxOf (h .descriptor)) (drop 1 (x .descriptors)) } ∷ []
 
 abbrev Each : (Exhibit → Type 0) → List Exhibit → Type 0
 Each P [] = Unit {0}
 Each P (x ∷ xs) = P x × Each P xs
 
 computed : Each Computes exhibits
-unfolding exhibits specimen seen standardSeen converted marksIn byte word long header maker date product version crateInputOf input sizeOf crateGammaFrom dpmsOf dpms display color front crateFlagsOf established standardTimingOf cratePairOf pair pairs scan padding skip span text crateSyncOf fitted axes timingOf timed detailed spaces closing cratePointOf point ended second points white stringOf string rawOf raw tagged descriptor later slots parts cratePlain reading tagOf standardOf beforeSlots judged recordOf said pointAt rangeIn timingIn productIn colorsIn inputOf imageOf gammaOf featuresOf pointOf flagsOf pairOf secondaryOf closingRefusal rangeRefusal blank backPorch acrossOf downOf ofBits toBits ofInt add div
+unfolding exhibits specimen seen standardSeen converted marksIn byte word long header maker date product version crateInputOf input sizeOf crateGammaFrom dpmsOf dpms display color front crateFlagsOf established standardTimingOf cratePairOf pair pairs scan padding skip span text crateSyncOf fitted axes timingOf timed detailed spaces closing cratePointOf point ended second points white stringOf string rawOf raw crateLimitsOf none gtfOf gtf other secondary range tagged descriptor later slots parts cratePlain reading tagOf standardOf beforeSlots judged recordOf said pointAt rangeIn timingIn productIn colorsIn inputOf imageOf gammaOf featuresOf pointOf flagsOf pairOf limitsOf secondaryOf closingRefusal rangeRefusal blank backPorch acrossOf downOf ofBits toBits ofInt add div
 computed = (
   record { size = refl; bytes = refl; marked = refl; answered = refl; accepted = refl; differs = refl },
   (
@@ -161,7 +177,10 @@ computed = (
       record { size = refl; bytes = refl; marked = refl; answered = refl; accepted = refl; differs = refl },
       (
         record { size = refl; bytes = refl; marked = refl; answered = refl; accepted = refl; differs = refl },
-        (record { size = refl; bytes = refl; marked = refl; answered = refl; accepted = refl; differs = refl }, tt),
+        (
+          record { size = refl; bytes = refl; marked = refl; answered = refl; accepted = refl; differs = refl },
+          (record { size = refl; bytes = refl; marked = refl; answered = refl; accepted = refl; differs = refl }, tt),
+        ),
       ),
     ),
   ),
@@ -170,33 +189,39 @@ computed = (
 -- ---- of each mark
 
 abbrev pub howMany : Marks → ℕ
-howMany m = digit (m .active) + digit (m .dummy) + digit (m .index) + digit (m .gamma) + digit (m .ratio)
+howMany m = digit (m .active) + digit (m .dummy) + digit (m .index) + digit (m .gamma) + digit (m .ratio) + digit (m .revision)
 
 pub each-mark-parts : (m : Marks) → howMany m ≡ 1 → (s : List ℕ) × Parting s m
 unfolding exhibits
-each-mark-parts m = go (m .active) (m .dummy) (m .index) (m .gamma) (m .ratio)
+each-mark-parts m = go (m .active) (m .dummy) (m .index) (m .gamma) (m .ratio) (m .revision)
   where
     alone : (x : Exhibit) → Computes x → (s : List ℕ) × Parting s (x .marks)
     alone x c = (x .block, parting x c)
 
-    go : (active dummy index gamma ratio : Bool) → digit active + digit dummy + digit index + digit gamma + digit ratio ≡ 1
-        → (s : List ℕ) × Parting s (these active dummy index gamma ratio)
-    go true false false false false h = alone _ (computed .0)
-    go false true false false false h = alone _ (computed .1 .0)
-    go false false true false false h = alone _ (computed .1 .1 .0)
-    go false false false true false h = alone _ (computed .1 .1 .1 .0)
-    go false false false false true h = alone _ (computed .1 .1 .1 .1 .0)
-    go false false false false false h = absurd (omega arith)
-    go true true index gamma ratio h = absurd (omega arith)
-    go true false true gamma ratio h = absurd (omega arith)
-    go true false false true ratio h = absurd (omega arith)
-    go true false false false true h = absurd (omega arith)
-    go false true true gamma ratio h = absurd (omega arith)
-    go false true false true ratio h = absurd (omega arith)
-    go false true false false true h = absurd (omega arith)
-    go false false true true ratio h = absurd (omega arith)
-    go false false true false true h = absurd (omega arith)
-    go false false false true true h = absurd (omega arith)
+    go : (active dummy index gamma ratio revision : Bool) → digit active + digit dummy + digit index + digit gamma + digit ratio + digit revision ≡ 1
+        → (s : List ℕ) × Parting s (these active dummy index gamma ratio revision)
+    go true false false false false false h = alone _ (computed .0)
+    go false true false false false false h = alone _ (computed .1 .0)
+    go false false true false false false h = alone _ (computed .1 .1 .0)
+    go false false false true false false h = alone _ (computed .1 .1 .1 .0)
+    go false false false false true false h = alone _ (computed .1 .1 .1 .1 .0)
+    go false false false false false true h = alone _ (computed .1 .1 .1 .1 .1 .0)
+    go false false false false false false h = absurd (omega arith)
+    go true true index gamma ratio revision h = absurd (omega arith)
+    go true false true gamma ratio revision h = absurd (omega arith)
+    go true false false true ratio revision h = absurd (omega arith)
+    go true false false false true revision h = absurd (omega arith)
+    go true false false false false true h = absurd (omega arith)
+    go false true true gamma ratio revision h = absurd (omega arith)
+    go false true false true ratio revision h = absurd (omega arith)
+    go false true false false true revision h = absurd (omega arith)
+    go false true false false false true h = absurd (omega arith)
+    go false false true true ratio revision h = absurd (omega arith)
+    go false false true false true revision h = absurd (omega arith)
+    go false false true false false true h = absurd (omega arith)
+    go false false false true true revision h = absurd (omega arith)
+    go false false false true false true h = absurd (omega arith)
+    go false false false false true true h = absurd (omega arith)
 
 -- the gamma that stands for none is that of no byte
 pub never-that-gamma : (v : ℕ) → v < 256 → crateGammaOf v ≡ pointGamma Gamma.None → ⊥
@@ -209,4 +234,4 @@ never-that-gamma v h e =
 pub specimen-is-unmarked : Block specimen × Unmarked specimen
 unfolding specimen marksIn
 specimen-is-unmarked =
-    (record { size = refl; bytes = all-bytes specimen refl }, record { active = refl; dummy = refl; index = refl; gamma = refl; ratio = refl })
+    (record { size = refl; bytes = all-bytes specimen refl }, record { active = refl; dummy = refl; index = refl; gamma = refl; ratio = refl; revision = refl })

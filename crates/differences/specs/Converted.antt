@@ -1,9 +1,11 @@
 -- What is no difference: the standard record in the crate record's terms, field by field, but for the maker. The numbers of the slots are left out,
--- which the crate record does not have, and so is which of two kinds an analog composite sync is.
+-- which the crate record does not have, and so is which of two kinds an analog composite sync is. What revision 4 brought is carried back to what the crate
+-- reading has in its place.
 use Prim.Native.Nat.{ℕ}
+use mathlib.Core.Bool.{true, false}
 use mathlib.Core.List.{map}
 use lib.Ieee.{Float, binary32, div}
-use Rattle.bits.specs.Fields.{byCode}
+use Rattle.bits.specs.Fields.{bit, byCode}
 use Rattle.timing.specs.declared.Size.{Size}
 use Rattle.crate_record.specs.Single.{f0, f1, f2, f10, f100, f1024, f0·7, f0·3, f0·714, f0·286, f0·4, whole}
 use Rattle.crate_record.specs.Seen.{Seen as CrateSeen}
@@ -29,11 +31,13 @@ use Rattle.crate_record.specs.declared.SecondaryTiming.{SecondaryTiming as Crat
 use Rattle.crate_record.specs.declared.MonitorDescriptor.{MonitorDescriptor}
 use Rattle.crate_record.specs.declared.Held.{Held as CrateHeld}
 use Rattle.standard_record.specs.Seen.{Seen}
+use Rattle.standard_record.specs.declared.Week.{Week}
 use Rattle.standard_record.specs.declared.Product.{Product}
 use Rattle.standard_record.specs.declared.VideoInput.{VideoInput}
 use Rattle.standard_record.specs.declared.ImageSize.{ImageSize}
 use Rattle.standard_record.specs.declared.Gamma.{Gamma}
 use Rattle.standard_record.specs.declared.DisplayType.{DisplayType}
+use Rattle.standard_record.specs.declared.Kind.{Kind}
 use Rattle.standard_record.specs.declared.Features.{Features}
 use Rattle.standard_record.specs.declared.Display.{Display}
 use Rattle.standard_record.specs.declared.Chromaticity.{Chromaticity}
@@ -73,8 +77,12 @@ ratioFrom r = over (r .width) (whole (r .height))
 
 -- ---- the head
 
+abbrev pub weekFrom : Week → ℕ
+weekFrom (Week.Made week) = week
+weekFrom Week.ModelYear = 255
+
 abbrev pub productFrom : ManufacturerID → Product → ProductInformation
-productFrom maker p = record { maker = maker; code = p .code; serial = p .serial; date = record { week = p .week; year = p .year } }
+productFrom maker p = record { maker = maker; code = p .code; serial = p .serial; date = record { week = weekFrom (p .week); year = p .year } }
 
 -- the code of the levels to volts, high and low
 abbrev pub levelFrom : ℕ → SignalLevel
@@ -88,10 +96,12 @@ levelFrom code =
 abbrev pub inputFrom : VideoInput → CrateInput
 inputFrom (VideoInput.Analog level setup sync) = CrateInput.Analog (levelFrom level) setup sync
 inputFrom (VideoInput.Digital dfp) = CrateInput.Digital dfp
+inputFrom (VideoInput.Interface depth code) = CrateInput.Digital (bit code 0)
 
 abbrev pub sizeFrom : ImageSize → MaxSize
 sizeFrom ImageSize.None = MaxSize.None
 sizeFrom (ImageSize.Some mm) = MaxSize.Some (cmFrom mm)
+sizeFrom (ImageSize.Ratio r) = MaxSize.None
 
 abbrev pub typeFrom : DisplayType → CrateType
 typeFrom DisplayType.Monochrome = CrateType.Monochrome
@@ -99,12 +109,20 @@ typeFrom DisplayType.RGBColor = CrateType.RGBColor
 typeFrom DisplayType.OtherColor = CrateType.OtherColor
 typeFrom DisplayType.Undefined = CrateType.Undefined
 
+-- encodings by their code
+abbrev pub kindFrom : Kind → CrateType
+kindFrom (Kind.Typed t) = typeFrom t
+kindFrom (Kind.Encodings false false) = CrateType.Monochrome
+kindFrom (Kind.Encodings true false) = CrateType.RGBColor
+kindFrom (Kind.Encodings false true) = CrateType.OtherColor
+kindFrom (Kind.Encodings true true) = CrateType.Undefined
+
 abbrev pub featuresFrom : Features → DPMSFeatures
 featuresFrom f = record {
   standby = f .standby;
   suspend = f .suspend;
   lowpower = f .lowpower;
-  kind = typeFrom (f .kind);
+  kind = kindFrom (f .kind);
   srgb = f .srgb;
   preferred = f .preferred;
   gtf = f .gtf;

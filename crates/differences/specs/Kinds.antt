@@ -35,17 +35,18 @@ use Rattle.standard_record.specs.declared.SecondaryTiming.{SecondaryTiming}
 use Rattle.standard_record.specs.declared.Verdict.the-variants.{Accepted}
 use Rattle.standard_parts.specs.Color.{pointOf}
 use Rattle.standard_parts.specs.Text.{textLength, allSpaces}
-use Rattle.standard_parts.specs.Descriptors.{limitsOf, secondaryOf, rangeRefusal}
+use Rattle.standard_parts.specs.Structure.{since4}
+use Rattle.standard_parts.specs.Descriptors.{secondaryOf, rangeRefusal}
 use Rattle.standard_parts.specs.declared.Structure.{Structure}
 use Rattle.standard_slots.specs.Said.{Said, refusal, timing, points, Lists, lists, ofPoint, pointAt, textIn, textAs, rangeIn, byTag, said}
 use Rattle.standard_reading.specs.Slots.{judge}
 use Rattle.write_leaf.specs.Bytes.{Bytes}
 use Rattle.write_leaf.specs.Again.{drop-bytes}
 use Rattle.marking.specs.Marks.{activeLowZero, tag10, indexZero, gammaFF, codesZero, pairsZero}
-use Rattle.differences.specs.Converted.{pointFrom, pairFrom, timingFrom, limitsFrom, secondFrom, descriptorFrom, heldFrom}
+use Rattle.differences.specs.Converted.{pointFrom, pairFrom, timingFrom, secondFrom, descriptorFrom, heldFrom}
 use Rattle.differences.specs.Unmarked.{otherFill}
 use Rattle.differences.specs.Along.{Along, along-map, along-then, along-if, along-ensured}
-use Rattle.differences.specs.Leaves.{through, point-agrees}
+use Rattle.differences.specs.Leaves.{through, limits-agree, point-agrees}
 use Rattle.differences.specs.Pairs.{nor, PairsRead, pairs-along}
 use Rattle.differences.specs.Timed.{TimingRead, timing-along}
 use Rattle.differences.specs.Closings.{TextRead, text-along, closing-then}
@@ -60,6 +61,7 @@ plainFrom l = plain (map pairFrom (l .pairs)) (map timingFrom (l .timings)) (map
 -- no mark in the slot t
 pub record Clean (σ : Structure) (t : List ℕ) : Type 0 where
   pub bytes : Bytes t
+  pub old : since4 σ ≡ false
   pub active : activeLowZero t ≡ false
   pub dummy : tag10 t ≡ false
   pub index : indexZero t ≡ false
@@ -185,16 +187,16 @@ module _ (σ : Structure) (F : ℕ → Type 0) (b0 b1 b2 b3 b4 b5 b6 b7 b8 b9 b1
       let start : there ≡ at + 11 = omega arith in
       (rw (e, f), rw (e, f) (ap (λ (k : ℕ). CrateSecond.Other b10 (record { start = k; len = 7 })) start), refl, omega arith)))
 
-  range-along : Bytes slot → ((n : ℕ) → byTag σ Tag.Range slot at ≡ refusal n → F n)
+  range-along : since4 σ ≡ false → Bytes slot → ((n : ℕ) → byTag σ Tag.Range slot at ≡ refusal n → F n)
       → Along (Told (byTag σ Tag.Range slot at)) F (crate.range >>= slots.saidBy) (drop 5 slot ++ rest) here
   unfolding crate.range crate.limitsOf byte rangeIn
-  range-along bytes refused =
+  range-along old bytes refused =
       along-then _ F (crate.secondary b10 >>= (λ t. done (Slot.Described (MonitorDescriptor.RangeLimits (crate.limitsOf b5 b6 b7 b8 b9) t)))) slots.saidBy (drop 11 slot ++ rest) there
       (along-then _ F (crate.secondary b10) _ (drop 11 slot ++ rest) there
       (along-map SecondRead F _ (crate.secondary b10) (drop 11 slot ++ rest) there
       (λ t es n r. (
         rw (r .0),
-        rw (r .0) (ap (λ u. plain [] [] [] (record { descriptor = MonitorDescriptor.RangeLimits (limitsFrom (limitsOf b5 b6 b7 b8 b9)) u } ∷ [])) (r .1)),
+        rw (r .0) (λ i. plain [] [] [] (record { descriptor = MonitorDescriptor.RangeLimits (limits-agree σ old b4 b5 b6 b7 b8 b9 i) (r .1 i) } ∷ [])),
         r .2,
         r .3,
       ))
@@ -213,7 +215,7 @@ module _ (σ : Structure) (F : ℕ → Type 0) (b0 b1 b2 b3 b4 b5 b6 b7 b8 b9 b1
       let gamma = nor (eqb b9 0xff) (eqb b14 0xff) (rw (clock, k) at (c .gamma)) in
       white-along (c .bytes) (index .0) (index .1) (gamma .0) (gamma .1) refused
   by-tag c clock Tag.Name k refused filled = string-along Descriptor.Name (λ t. rw k) (λ e. filled (rw (clock, k) e))
-  by-tag c clock Tag.Range k refused filled = range-along (c .bytes) refused
+  by-tag c clock Tag.Range k refused filled = range-along (c .old) (c .bytes) refused
   by-tag c clock Tag.Text k refused filled = string-along Descriptor.Text (λ t. rw (k .0, k .1)) (λ e. filled (rw (clock, k .0, k .1) e))
   by-tag c clock Tag.Serial k refused filled = string-along Descriptor.Serial (λ t. rw (k .0, k .1)) (λ e. filled (rw (clock, k .0, k .1, k .2) e))
   by-tag c clock Tag.Raw k refused filled = raw-along

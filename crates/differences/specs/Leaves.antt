@@ -3,6 +3,7 @@ use Prim.Native.Nat.{ℕ, zero, suc, _+_, _*_, _<_}
 use mathlib.Core.Path.{_≡_, refl, sym, ap, _∙_}
 use mathlib.Core.Bool.{Bool, true, false, _&&_, _||_, not, cond}
 use mathlib.Core.List.{[], _∷_, map}
+use native.Mathlib.Nat.{add-zero}
 use native.Mathlib.Omega.{arith}
 use lib.Dec.{eqb, ltb}
 use lib.Ieee.{binary32, ofBits, ofInt, add, div}
@@ -18,20 +19,22 @@ use Rattle.crate_timings.specs.declared.Pair.{Pair as CratePair}
 use Rattle.crate_record.specs.declared.SyncLine.{SyncLine as CrateLine}
 use Rattle.crate_record.specs.declared.SyncType.{SyncType}
 use Rattle.crate_detailed.specs.Detailed.{lineOf as crateLineOf, syncBy as crateSyncBy}
-use Rattle.crate_descriptors.specs.Descriptors.{pointOf as cratePointOf}
+use Rattle.crate_descriptors.specs.Descriptors.{pointOf as cratePointOf, limitsOf as crateLimitsOf}
 use Rattle.timing.specs.Rest.{polarityOf}
 use Rattle.timing.specs.declared.Size.{Size}
 use Rattle.standard_record.specs.declared.ImageSize.{ImageSize}
 use Rattle.standard_record.specs.declared.Sync.{Sync}
 use Rattle.standard_timing.specs.Timing.{lineOf, syncBy}
-use Rattle.standard_parts.specs.Head.{inputOf, imageOf, gammaOf, typeOf, featuresOf}
+use Rattle.standard_parts.specs.Structure.{since4}
+use Rattle.standard_parts.specs.Head.{weekOf, inputOf, imageOf, gammaOf, typeOf, tellsInterface, featuresOf}
+use Rattle.standard_parts.specs.Descriptors.{offsetsOf, limitsOf}
 use Rattle.standard_parts.specs.Color.{pointOf}
 use Rattle.standard_parts.specs.Timings.{ratio, ratioOf, pairOf}
 use Rattle.standard_parts.specs.declared.Structure.{Structure}
 use Rattle.standard_parts.specs.declared.Pair.{Pair}
 use Rattle.standard_slots.specs.Said.{ofPair, ofPoint}
 use Rattle.marking.specs.Marks.{codeZero}
-use Rattle.differences.specs.Converted.{over, inputFrom, sizeFrom, gammaFrom, typeFrom, featuresFrom, ratioFrom, pairFrom, pointFrom, lineFrom, syncFrom}
+use Rattle.differences.specs.Converted.{over, weekFrom, inputFrom, sizeFrom, gammaFrom, typeFrom, featuresFrom, ratioFrom, pairFrom, pointFrom, lineFrom, syncFrom, limitsFrom}
 use Rattle.differences.specs.Floats.{sum-whole, quotient-whole}
 
 -- by one test, and by a code
@@ -45,9 +48,26 @@ through-code f n p q r s = through f (eqb n 0) p (through f (eqb n 1) q (through
 
 -- ---- the head
 
-pub input-agrees : (b : ℕ) → crateInputOf b ≡ inputFrom (inputOf b)
-unfolding crateInputOf inputOf
-input-agrees b = through inputFrom (bit b 7) refl refl
+neither : (t : Bool) → cond t false false ≡ false
+neither true = refl
+neither false = refl
+
+-- below revision 4
+module _ (σ : Structure) (old : since4 σ ≡ false) where
+  pub week-agrees : (b : ℕ) → b ≡ weekFrom (weekOf σ b)
+  week-agrees b = rw old
+
+  pub input-agrees : (b : ℕ) → crateInputOf b ≡ inputFrom (inputOf σ b)
+  unfolding crateInputOf inputOf
+  input-agrees b = rw old (through inputFrom (bit b 7) refl refl)
+
+  no-interface : (b : ℕ) → tellsInterface (inputOf σ b) ≡ false
+  unfolding inputOf
+  no-interface b = rw old (sym (through tellsInterface (bit b 7) refl refl) ∙ neither (bit b 7))
+
+  pub limits-agree : (b4 b5 b6 b7 b8 b9 : ℕ) → crateLimitsOf b5 b6 b7 b8 b9 ≡ limitsFrom (limitsOf (offsetsOf σ b4) b5 b6 b7 b8 b9)
+  unfolding crateLimitsOf limitsOf
+  limits-agree b4 b5 b6 b7 b8 b9 = rw old (simp add-zero)
 
 -- the literals 10 and 100
 ten : f10 ≡ whole 10
@@ -62,9 +82,9 @@ hundred = refl
 cm-agrees : (v : ℕ) → v < 256 → whole v ≡ over (v * 10) f10
 cm-agrees v h = sym (quotient-whole v 10 (omega arith) (omega arith) (omega arith)) ∙ ap (over (v * 10)) (sym ten)
 
-pub size-agrees : (w h : ℕ) → w < 256 → h < 256 → sizeOf w h ≡ sizeFrom (imageOf w h)
+pub size-agrees : (σ : Structure) → since4 σ ≡ false → (w h : ℕ) → w < 256 → h < 256 → sizeOf w h ≡ sizeFrom (imageOf σ w h)
 unfolding sizeOf imageOf
-size-agrees w h l m = go (eqb w 0) (eqb h 0)
+size-agrees σ old w h l m = rw old (go (eqb w 0) (eqb h 0))
   where
     stored : CrateSize
     stored = record { width = whole w; height = whole h }
@@ -72,8 +92,10 @@ size-agrees w h l m = go (eqb w 0) (eqb h 0)
     mm : Size
     mm = record { width = w * 10; height = h * 10 }
 
-    go : (a b : Bool) → cond (a || b) MaxSize.None (MaxSize.Some stored) ≡ sizeFrom (cond a ImageSize.None (cond b ImageSize.None (ImageSize.Some mm)))
-    go true b = refl
+    go : (a b : Bool)
+        → cond (a || b) MaxSize.None (MaxSize.Some stored) ≡ sizeFrom (cond a (cond b ImageSize.None ImageSize.None) (cond b ImageSize.None (ImageSize.Some mm)))
+    go true true = refl
+    go true false = refl
     go false true = refl
     go false false = λ i. MaxSize.Some (record { width = cm-agrees w l i; height = cm-agrees h m i })
 
@@ -88,17 +110,18 @@ gamma-agrees v h = through gammaFrom (eqb v 0xff) refl (ap CrateGamma.Some (hund
 type-agrees : (n : ℕ) → kindOf n ≡ typeFrom (typeOf n)
 type-agrees n = through-code typeFrom n refl refl refl refl
 
-pub features-agree : (b : ℕ) → dpmsOf b ≡ featuresFrom (featuresOf b)
+pub features-agree : (σ : Structure) → since4 σ ≡ false → (input b : ℕ) → dpmsOf b ≡ featuresFrom (featuresOf (inputOf σ input) b)
 unfolding dpmsOf featuresOf
-features-agree b = λ i. record {
-  standby = bit b 7;
-  suspend = bit b 6;
-  lowpower = bit b 5;
-  kind = type-agrees (digits b 3 2) i;
-  srgb = bit b 2;
-  preferred = bit b 1;
-  gtf = bit b 0;
-}
+features-agree σ old input b =
+    rw (no-interface σ old input) (λ i. record {
+      standby = bit b 7;
+      suspend = bit b 6;
+      lowpower = bit b 5;
+      kind = type-agrees (digits b 3 2) i;
+      srgb = bit b 2;
+      preferred = bit b 1;
+      gtf = bit b 0;
+    })
 
 -- ---- a pair
 
@@ -107,6 +130,7 @@ ratio-agrees : (σ : Structure) (n : ℕ) → (σ ≡ Structure.Below3 → eqb n
 unfolding ofBits ofInt
 ratio-agrees Structure.Below3 n h = rw (h refl) (through ratioFrom (eqb n 1) refl (through ratioFrom (eqb n 2) refl refl))
 ratio-agrees Structure.From3 n h = through-code ratioFrom n refl refl refl refl
+ratio-agrees Structure.From4 n h = through-code ratioFrom n refl refl refl refl
 
 pub pair-agrees : (σ : Structure) (low high : ℕ) → (σ ≡ Structure.Below3 → codeZero low high ≡ false)
     → listed (cratePairOf low high) ≡ map pairFrom (ofPair (pairOf σ low high))

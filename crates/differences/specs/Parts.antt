@@ -24,9 +24,10 @@ use Rattle.standard_record.specs.Held.{heldPoint, heldPair, heldTiming, held}
 use Rattle.standard_record.specs.declared.Verdict.{Verdict}
 use Rattle.standard_record.specs.declared.Verdict.the-variants.{Accepted, Refused}
 use Rattle.standard_parts.specs.Timings.{flagsOf}
+use Rattle.standard_head.specs.Head.{structureIn}
 use Rattle.standard_verdict.specs.Verdict.{refusedAt, _then_, isHeader, beforeSlots}
 use Rattle.standard_slots.specs.Said.{refusal, lists}
-use Rattle.standard_reading.specs.Slots.{structureIn, saidIn, judged}
+use Rattle.standard_reading.specs.Slots.{saidIn, judged}
 use Rattle.standard_reading.specs.Block.{flagsIn, eightIn, plain}
 use Rattle.marking.specs.Marks.{inSlots}
 use Rattle.differences.specs.Converted.{pointFrom, pairFrom, timingFrom, heldFrom, converted}
@@ -34,7 +35,7 @@ use Rattle.differences.specs.Unmarked.{Block, Unmarked, otherFill}
 use Rattle.differences.specs.Along.{Along, along-map, along-then, Came, along, spell}
 use Rattle.differences.specs.Pairs.{PairsRead, pairs-along}
 use Rattle.differences.specs.Heads.{frontFrom, FrontRead, front-along}
-use Rattle.differences.specs.Slots.{ratios, listed, Accepts, All, LaterRead, slots-along}
+use Rattle.differences.specs.Slots.{ratios, before-four, listed, Accepts, All, LaterRead, slots-along}
 
 -- ---- what four slots list
 
@@ -142,7 +143,7 @@ module _ (s : List ℕ) (block : Block s) (unmarked : Unmarked s) where
         (along-then _ F (pairs 8) _ (drop 38 s) 38
         (along-map (PairsRead (structureIn s) s 38 8 38) F _ (pairs 8) (drop 38 s) 38
         (λ a ds k q. rw (q .1, q .2) (end-along f a (r .0) (r .1) (q .0))) eight-along)))
-        (front-along s block F two))
+        (front-along s block (before-four s block unmarked) F two))
 
 -- ---- verdicts
 

@@ -4,9 +4,9 @@ use mathlib.Core.Path.{_≡_, refl, sym, ap, subst}
 use mathlib.Core.Bool.{Bool, true, false, _&&_, _||_, cond, false≢true}
 use mathlib.Core.List.{List, [], _∷_}
 use native.Mathlib.Omega.{arith}
-use lib.Dec.{ltb}
+use lib.Dec.{leb, ltb}
 use lib.ListN.{take, drop}
-use borrow.Author.Tests.{ltb-true, ltb-false}
+use borrow.Author.Tests.{ltb-true, ltb-false, lt-ltb, leb-false}
 use Rattle.bits.specs.Bytes.{_!_}
 use Rattle.steps.specs.Steps.{Steps, done, _>>=_}
 use Rattle.steps.specs.Laws.{then-then}
@@ -15,9 +15,10 @@ use Rattle.crate_slots.specs.Slots as crate
 use Rattle.crate_end.specs.Ends.{saidAt}
 use Rattle.standard_record.specs.declared.Verdict.the-variants.{Accepted}
 use Rattle.standard_parts.specs.declared.Structure.{Structure}
-use Rattle.standard_parts.specs.Structure.{structureOf}
+use Rattle.standard_parts.specs.Structure.{structureOf, since4}
+use Rattle.standard_head.specs.Head.{structureIn}
 use Rattle.standard_slots.specs.Said.{refusal, lists, said}
-use Rattle.standard_reading.specs.Slots.{start, structureIn, saidIn, judge}
+use Rattle.standard_reading.specs.Slots.{start, saidIn, judge}
 use Rattle.write_leaf.specs.Again.{part-bytes}
 use Rattle.marking.specs.Marks.{some, slotIn, inSlots, activeLowZero, tag10, indexZero, gammaFF, codesZero, pairsZero, marksIn}
 use Rattle.differences.specs.Unmarked.{Block, Unmarked, otherFill}
@@ -53,11 +54,20 @@ second-not false b e h = absurd (false≢true e)
 
 -- below 3 by the structure, and by the revision
 pub below-three : (r : ℕ) → structureOf r ≡ Structure.Below3 → ltb r 3 ≡ true
-below-three r = go (ltb r 3)
+below-three r = go (ltb r 3) (ltb r 4)
   where
-    go : (t : Bool) → cond t Structure.Below3 Structure.From3 ≡ Structure.Below3 → t ≡ true
-    go true e = refl
-    go false e = cc
+    go : (t u : Bool) → cond t Structure.Below3 (cond u Structure.From3 Structure.From4) ≡ Structure.Below3 → t ≡ true
+    go true u e = refl
+    go false true e = cc
+    go false false e = cc
+
+-- below 4 by the revision, and by the structure
+below-four : (r : ℕ) → leb 4 r ≡ false → since4 (structureOf r) ≡ false
+below-four r h = rw (lt-ltb r 4 (leb-false 4 r h)) (go (ltb r 3))
+  where
+    go : (t : Bool) → since4 (cond t Structure.Below3 Structure.From3) ≡ false
+    go true = refl
+    go false = refl
 
 module _ (s : List ℕ) where
   -- of the 18 bytes t of slot i the crate reading says x
@@ -90,6 +100,11 @@ module _ (s : List ℕ) (block : Block s) (unmarked : Unmarked s) where
   unfolding marksIn
   ratios e = nor (codesZero s 38 8) (inSlots pairsZero s) (second-not (ltb (s ! 19) 3) _ (below-three (s ! 19) e) (unmarked .ratio))
 
+  -- its structure is not 1.4
+  pub before-four : since4 (structureIn s) ≡ false
+  unfolding marksIn
+  before-four = below-four (s ! 19) (unmarked .revision)
+
   not-in : (f : List ℕ → Bool) → inSlots f s ≡ false → (i : ℕ) → i < 4 → f (slotIn s i) ≡ false
   not-in f = none-of 4 (λ i. f (slotIn s i))
 
@@ -98,6 +113,7 @@ module _ (s : List ℕ) (block : Block s) (unmarked : Unmarked s) where
   clean i l =
       record {
         bytes = part-bytes s (start i) 18 (block .bytes);
+        old = before-four;
         active = not-in activeLowZero (unmarked .active) i l;
         dummy = not-in tag10 (unmarked .dummy) i l;
         index = not-in indexZero (unmarked .index) i l;

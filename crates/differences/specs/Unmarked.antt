@@ -1,4 +1,4 @@
--- What `differences-are-whole` says: a block without the five marks, and what then holds of its two records.
+-- What `differences-are-whole` says: a block without the six marks, and what then holds of its two records.
 use Prim.Native.Nat.{ℕ, _+_, _*_}
 use mathlib.Core.Path.{_≡_}
 use mathlib.Core.Bool.{Bool, false, not, _&&_, _||_}
@@ -28,6 +28,7 @@ pub record Unmarked (s : List ℕ) : Type 0 where
   pub index : marksIn s .index ≡ false
   pub gamma : marksIn s .gamma ≡ false
   pub ratio : marksIn s .ratio ≡ false
+  pub revision : marksIn s .revision ≡ false
 
 -- no mark, but a difference: of a slot, a text with something else than spaces behind its 0x0a
 abbrev pub otherFill : List ℕ → Bool

@@ -47,6 +47,13 @@ pairs :
 unfolding marksIn marksLines lineIf flat
 pairs = (refl, refl, refl, refl, refl, refl)
 
+revisions :
+    (listed (set plain 19 4) ≡ text "revision-4\n")
+    × (listed (set plain 19 255) ≡ text "revision-4\n")
+unfolding marksIn marksLines lineIf flat
+revisions = (refl, refl)
+
+-- but the last two, which no block has both of
 every : listed (set (set (set (set (set old 53 2) 54 1) 75 0x10) 93 0xfb) 99 0xff)
     ≡ text "active-low-zero\ntag-10\nwhite-index-0\nwhite-gamma-ff\nold-ratio-0\n"
 unfolding marksIn marksLines lineIf flat

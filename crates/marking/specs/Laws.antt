@@ -3,13 +3,13 @@ use Prim.Native.Nat.{ℕ}
 use mathlib.Core.Bool.{false, _&&_, _||_}
 use mathlib.Core.List.{List}
 use mathlib.Core.Path.{_≡_, refl}
-use lib.Dec.{ltb}
+use lib.Dec.{ltb, leb}
 use Rattle.bits.specs.Bytes.{_!_}
 use Rattle.marking.specs.declared.Marks.{Marks}
 use Rattle.marking.specs.Marks.{slotIn, activeLowZero, tag10, indexZero, gammaFF, codesZero, pairsZero, marksIn}
 
 abbrev pub noMarks : Marks
-noMarks = record { active = false; dummy = false; index = false; gamma = false; ratio = false }
+noMarks = record { active = false; dummy = false; index = false; gamma = false; ratio = false; revision = false }
 
 -- the marks m and those of a slot t; its ratio whatever the revision is
 unfoldable pub withSlot : Marks → List ℕ → Marks
@@ -19,6 +19,7 @@ withSlot m t = record {
   index = m .index || indexZero t;
   gamma = m .gamma || gammaFF t;
   ratio = m .ratio || pairsZero t;
+  revision = m .revision;
 }
 
 -- the marks m of the four slots, with the revision and the eight pairs
@@ -29,6 +30,7 @@ inBlock s m = record {
   index = m .index;
   gamma = m .gamma;
   ratio = ltb (s ! 19) 3 && (codesZero s 38 8 || m .ratio);
+  revision = leb 4 (s ! 19);
 }
 
 pub gathered : (s : List ℕ)

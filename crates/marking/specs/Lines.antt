@@ -11,7 +11,7 @@ lineIf b word = cond b (flat (word ∷ newline ∷ [])) []
 
 -- whether there is a mark
 abbrev pub oneOf : Marks → Bool
-oneOf m = m .active || m .dummy || m .index || m .gamma || m .ratio
+oneOf m = m .active || m .dummy || m .index || m .gamma || m .ratio || m .revision
 
 unfoldable pub marksLines : Marks → List ℕ
 marksLines m = flat (
@@ -20,5 +20,6 @@ marksLines m = flat (
     ∷ lineIf (m .index) (text "white-index-0")
     ∷ lineIf (m .gamma) (text "white-gamma-ff")
     ∷ lineIf (m .ratio) (text "old-ratio-0")
+    ∷ lineIf (m .revision) (text "revision-4")
     ∷ lineIf (not (oneOf m)) (text "none")
     ∷ [])

@@ -2,7 +2,7 @@
 use Prim.Native.Nat.{ℕ, zero, suc, _+_, _*_}
 use mathlib.Core.Bool.{Bool, false, not, _&&_, _||_}
 use mathlib.Core.List.{List}
-use lib.Dec.{eqb, ltb}
+use lib.Dec.{eqb, ltb, leb}
 use Rattle.bits.specs.Fields.{digits}
 use Rattle.bits.specs.Bytes.{_!_, part}
 use Rattle.marking.specs.declared.Marks.{Marks}
@@ -65,4 +65,5 @@ marksIn s = record {
   index = inSlots indexZero s;
   gamma = inSlots gammaFF s;
   ratio = ltb (s ! 19) 3 && (codesZero s 38 8 || inSlots pairsZero s);
+  revision = leb 4 (s ! 19);
 }

@@ -16,7 +16,7 @@ unfolding lineIf flat
 line-length true word = simp length-append (omega arith)
 line-length false word = omega arith
 
-short : (m : Marks) → length (marksLines m) ≤ 69
+short : (m : Marks) → length (marksLines m) ≤ 80
 unfolding marksLines flat
 short m =
     simp length-append
@@ -27,6 +27,7 @@ short m =
       line-length (m .index) (text "white-index-0"),
       line-length (m .gamma) (text "white-gamma-ff"),
       line-length (m .ratio) (text "old-ratio-0"),
+      line-length (m .revision) (text "revision-4"),
       line-length (not (oneOf m)) (text "none"),
     ))
 

@@ -7,13 +7,15 @@ ghost use Rattle.marking.specs.Marks.{clockless, tagged, activeLowZero, 
 ghost use Rattle.marking.specs.Laws.{withSlot, inBlock};
 ghost use Rattle.marking.specs.Lines as lines;
 
-// A clock with an active low byte of zero; tag 10; a white point of index 0; one of gamma ff; ratio code 0 in a listed pair below revision 3.
+// A clock with an active low byte of zero; tag 10; a white point of index 0; one of gamma ff; ratio code 0 in a listed pair below revision 3; revision 4 or
+// above.
 pub struct Marks {
     pub active: bool,
     pub dummy: bool,
     pub index: bool,
     pub gamma: bool,
     pub ratio: bool,
+    pub revision: bool,
 }
 
 // Two tests as one, without a branch in the caller.
@@ -105,6 +107,7 @@ fn with_slot(m: Marks, t: &[u8]) -> Marks
             m.ratio,
             write_leaf::both(tagged(0xfa, t), codes_zero(t, 5, 6)),
         ),
+        revision: m.revision,
     }
 }
 
@@ -121,6 +124,7 @@ fn in_block(s: &[u8], m: Marks) -> Marks
             bits::byte_at(s, 19) < 3,
             either(codes_zero(s, 38, 8), m.ratio),
         ),
+        revision: 4 <= bits::byte_at(s, 19),
     }
 }
 
@@ -134,6 +138,7 @@ pub fn marks_of(s: &[u8]) -> Marks
         index: false,
         gamma: false,
         ratio: false,
+        revision: false,
     };
     m = with_slot(m, bits::part(s, 54, 18));
     m = with_slot(m, bits::part(s, 72, 18));
@@ -160,8 +165,11 @@ fn one_of(m: Marks) -> bool
     ensures { λ r. ⌜ r ≡ lines.oneOf m ⌝ }
 {
     either(
-        either(either(either(m.active, m.dummy), m.index), m.gamma),
-        m.ratio,
+        either(
+            either(either(either(m.active, m.dummy), m.index), m.gamma),
+            m.ratio,
+        ),
+        m.revision,
     )
 }
 
@@ -173,6 +181,7 @@ fn marks_lines(out: &mut [u8; 4096], at: usize, m: Marks) -> usize
     n = line_if(out, n, m.index, b"white-index-0");
     n = line_if(out, n, m.gamma, b"white-gamma-ff");
     n = line_if(out, n, m.ratio, b"old-ratio-0");
+    n = line_if(out, n, m.revision, b"revision-4");
     line_if(out, n, !one_of(m), b"none")
 }
 

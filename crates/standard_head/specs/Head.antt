@@ -5,26 +5,41 @@ use Rattle.bits.specs.Fields.{digits}
 use Rattle.bits.specs.Bytes.{_!_}
 use Rattle.shared_record.specs.declared.Version.{Version}
 use Rattle.standard_record.specs.declared.Product.{Product}
+use Rattle.standard_record.specs.declared.VideoInput.{VideoInput}
 use Rattle.standard_record.specs.declared.Display.{Display}
 use Rattle.standard_record.specs.declared.Chromaticity.{Chromaticity}
 use Rattle.standard_record.specs.declared.Chromaticities.{Chromaticities}
-use Rattle.standard_parts.specs.Head.{makerOf, inputOf, imageOf, gammaOf, featuresOf}
+use Rattle.standard_parts.specs.Structure.{structureOf}
+use Rattle.standard_parts.specs.Head.{makerOf, weekOf, inputOf, imageOf, gammaOf, featuresOf}
 use Rattle.standard_parts.specs.Color.{chromaticityOf}
+use Rattle.standard_parts.specs.declared.Structure.{Structure}
+
+-- by the revision
+abbrev pub structureIn : List ℕ → Structure
+structureIn s = structureOf (s ! 19)
 
 unfoldable pub productIn : List ℕ → Product
 productIn s = record {
   maker = makerOf (s ! 8) (s ! 9);
   code = s ! 10 + 256 * s ! 11;
   serial = (s ! 12 + 256 * s ! 13) + 65536 * (s ! 14 + 256 * s ! 15);
-  week = s ! 16;
+  week = weekOf (structureIn s) (s ! 16);
   year = s ! 17 + 1990;
 }
 
 abbrev pub versionIn : List ℕ → Version
 versionIn s = record { version = s ! 18; revision = s ! 19 }
 
+abbrev pub inputIn : List ℕ → VideoInput
+inputIn s = inputOf (structureIn s) (s ! 20)
+
 abbrev pub displayIn : List ℕ → Display
-displayIn s = record { input = inputOf (s ! 20); size = imageOf (s ! 21) (s ! 22); gamma = gammaOf (s ! 23); features = featuresOf (s ! 24) }
+displayIn s = record {
+  input = inputIn s;
+  size = imageOf (structureIn s) (s ! 21) (s ! 22);
+  gamma = gammaOf (s ! 23);
+  features = featuresOf (inputIn s) (s ! 24);
+}
 
 -- x at k, y behind it
 abbrev pub chromaticityAt : ℕ → List ℕ → ℕ → Chromaticity

@@ -9,6 +9,7 @@ ghost use Rattle.standard_head.specs.Head.{productIn, displayIn, chromat
 pub fn product_in(s: &[u8]) -> Product
     ensures { λ r. ⌜ r ≡ productIn (now (s .entry)) ⌝ }
 {
+    let structure = standard_parts::structure_of(bits::byte_at(s, 19));
     Product {
         maker: standard_parts::maker_of(bits::byte_at(s, 8), bits::byte_at(s, 9)),
         code: bits::word(bits::byte_at(s, 10), bits::byte_at(s, 11)),
@@ -16,7 +17,7 @@ pub fn product_in(s: &[u8]) -> Product
             bits::word(bits::byte_at(s, 12), bits::byte_at(s, 13)),
             bits::word(bits::byte_at(s, 14), bits::byte_at(s, 15)),
         ),
-        week: bits::byte_at(s, 16),
+        week: standard_parts::week_of(structure, bits::byte_at(s, 16)),
         year: bits::byte_at(s, 17) as u16 + 1990,
     }
 }
@@ -24,11 +25,13 @@ pub fn product_in(s: &[u8]) -> Product
 pub fn display_in(s: &[u8]) -> Display
     ensures { λ r. ⌜ r ≡ displayIn (now (s .entry)) ⌝ }
 {
+    let structure = standard_parts::structure_of(bits::byte_at(s, 19));
+    let input = standard_parts::input_of(structure, bits::byte_at(s, 20));
     Display {
-        input: standard_parts::input_of(bits::byte_at(s, 20)),
-        size: standard_parts::image_of(bits::byte_at(s, 21), bits::byte_at(s, 22)),
+        input,
+        size: standard_parts::image_of(structure, bits::byte_at(s, 21), bits::byte_at(s, 22)),
         gamma: standard_parts::gamma_of(bits::byte_at(s, 23)),
-        features: standard_parts::features_of(bits::byte_at(s, 24)),
+        features: standard_parts::features_of(input, bits::byte_at(s, 24)),
     }
 }
 

@@ -1,5 +1,6 @@
 // The listing of the standard reading, written to a page that the caller lends.
 use standard_record::Chromaticities;
+use standard_record::Depth;
 use standard_record::Display;
 use standard_record::DisplayType;
 use standard_record::Features;
@@ -7,12 +8,14 @@ use standard_record::Gamma;
 use standard_record::HeldPair;
 use standard_record::HeldPoint;
 use standard_record::ImageSize;
+use standard_record::Kind;
 use standard_record::Product;
 use standard_record::StandardReading;
 use standard_record::StandardRecord;
 use standard_record::StandardTimings;
 use standard_record::Verdict;
 use standard_record::VideoInput;
+use standard_record::Week;
 use standard_record::WhitePoints;
 ghost use mathlib.Core.Path.{_≡_};
 ghost use lib.ListN.{take, drop};
@@ -31,17 +34,44 @@ fn letter(out: &mut [u8; 4096], at: usize, b: u8) -> usize
     }
 }
 
+fn numbers(out: &mut [u8; 4096], at: usize, code: u16, serial: u32, t: Week, year: u16) -> usize
+    ensures { λ r. ⌜ page (now (out .exit)) r ≡ page (now (out .entry)) at ▷ lines.numbers code serial t year ⌝ }
+{
+    match t {
+        Week::Made(week) => shared_lines::product_numbers(out, at, code, serial, week, year),
+        Week::ModelYear => {
+            let mut n = page::field16(out, at, code);
+            n = page::field32(out, n, serial);
+            n = page::bytes(out, n, b" model");
+            n = page::field16(out, n, year);
+            page::newline(out, n)
+        }
+    }
+}
+
 fn product_line(out: &mut [u8; 4096], at: usize, p: Product) -> usize
     ensures { λ r. ⌜ page (now (out .exit)) r ≡ page (now (out .entry)) at ▷ lines.productLine p ⌝ }
 {
+    // an enum that is a field is copied before it is passed
+    let week = p.week;
     let mut n = page::bytes(out, at, b"product");
     n = letter(out, n, p.maker.0);
     n = letter(out, n, p.maker.1);
     n = letter(out, n, p.maker.2);
-    shared_lines::product_numbers(out, n, p.code, p.serial, p.week, p.year)
+    numbers(out, n, p.code, p.serial, week, p.year)
 }
 
 // ---- display
+
+fn depth(out: &mut [u8; 4096], at: usize, t: Depth) -> usize
+    ensures { λ r. ⌜ page (now (out .exit)) r ≡ page (now (out .entry)) at ▷ lines.depth t ⌝ }
+{
+    match t {
+        Depth::Undefined => page::bytes(out, at, b" undefined"),
+        Depth::Bits(n) => page::field8(out, at, n),
+        Depth::Reserved => page::bytes(out, at, b" reserved"),
+    }
+}
 
 fn input_line(out: &mut [u8; 4096], at: usize, t: VideoInput) -> usize
     ensures { λ r. ⌜ page (now (out .exit)) r ≡ page (now (out .entry)) at ▷ lines.inputLine t ⌝ }
@@ -61,6 +91,12 @@ fn input_line(out: &mut [u8; 4096], at: usize, t: VideoInput) -> usize
             )
         }
         VideoInput::Digital { dfp } => shared_lines::digital_line(out, at, dfp),
+        VideoInput::Interface { depth: d, code } => {
+            let mut n = page::bytes(out, at, b"digital");
+            n = depth(out, n, d);
+            n = page::field8(out, n, code);
+            page::newline(out, n)
+        }
     }
 }
 
@@ -71,6 +107,12 @@ fn size_line(out: &mut [u8; 4096], at: usize, t: ImageSize) -> usize
         ImageSize::None => page::bytes(out, at, b"size none\n"),
         ImageSize::Some(s) => {
             let mut n = page::bytes(out, at, b"size");
+            n = page::field16(out, n, s.width);
+            n = page::field16(out, n, s.height);
+            page::newline(out, n)
+        }
+        ImageSize::Ratio(s) => {
+            let mut n = page::bytes(out, at, b"size ratio");
             n = page::field16(out, n, s.width);
             n = page::field16(out, n, s.height);
             page::newline(out, n)
@@ -106,23 +148,61 @@ fn kind_number(t: DisplayType) -> u8
     }
 }
 
+fn encodings(out: &mut [u8; 4096], at: usize, ycrcb444: bool, ycrcb422: bool) -> usize
+    ensures { λ r. ⌜ page (now (out .exit)) r ≡ page (now (out .entry)) at ▷ lines.encodings ycrcb444 ycrcb422 ⌝ }
+{
+    if ycrcb422 {
+        if ycrcb444 {
+            page::bytes(out, at, b" e3")
+        } else {
+            page::bytes(out, at, b" e2")
+        }
+    } else {
+        if ycrcb444 {
+            page::bytes(out, at, b" e1")
+        } else {
+            page::bytes(out, at, b" e0")
+        }
+    }
+}
+
+fn features_by(out: &mut [u8; 4096], at: usize, t: Kind, f: Features) -> usize
+    ensures { λ r. ⌜ page (now (out .exit)) r ≡ page (now (out .entry)) at ▷ lines.featuresBy t f ⌝ }
+{
+    match t {
+        Kind::Typed(t) => {
+            let k = kind_number(t);
+            shared_lines::dpms_line(
+                out,
+                at,
+                f.standby,
+                f.suspend,
+                f.lowpower,
+                k,
+                f.srgb,
+                f.preferred,
+                f.gtf,
+            )
+        }
+        Kind::Encodings { ycrcb444, ycrcb422 } => {
+            let mut n = page::bytes(out, at, b"dpms");
+            n = page::flag(out, n, f.standby);
+            n = page::flag(out, n, f.suspend);
+            n = page::flag(out, n, f.lowpower);
+            n = encodings(out, n, ycrcb444, ycrcb422);
+            n = page::flag(out, n, f.srgb);
+            n = page::flag(out, n, f.preferred);
+            n = page::flag(out, n, f.gtf);
+            page::newline(out, n)
+        }
+    }
+}
+
 fn features_line(out: &mut [u8; 4096], at: usize, f: Features) -> usize
     ensures { λ r. ⌜ page (now (out .exit)) r ≡ page (now (out .entry)) at ▷ lines.featuresLine f ⌝ }
 {
-    // an enum that is a field is copied before it is passed
     let kind = f.kind;
-    let k = kind_number(kind);
-    shared_lines::dpms_line(
-        out,
-        at,
-        f.standby,
-        f.suspend,
-        f.lowpower,
-        k,
-        f.srgb,
-        f.preferred,
-        f.gtf,
-    )
+    features_by(out, at, kind, f)
 }
 
 fn display_lines(out: &mut [u8; 4096], at: usize, d: Display) -> usize

@@ -7,7 +7,7 @@ use Rattle.bits.specs.Fields.{digits, bit, byCode}
 use Rattle.fixed.specs.Gather.{gather, when}
 use Rattle.standard_record.specs.declared.Ratio.{Ratio}
 use Rattle.standard_parts.specs.declared.Structure.{Structure}
-use Rattle.standard_parts.specs.declared.Structure.the-variants.{Below3, From3}
+use Rattle.standard_parts.specs.declared.Structure.the-variants.{Below3, From3, From4}
 use Rattle.standard_parts.specs.declared.Pair.{Pair}
 use Rattle.standard_parts.specs.declared.Pair.the-variants.{Skipped, Listed}
 
@@ -22,6 +22,7 @@ ratio w h = record { width = w; height = h }
 abbrev pub firstRatio : Structure → Ratio
 firstRatio Below3 = ratio 1 1
 firstRatio From3 = ratio 16 10
+firstRatio From4 = ratio 16 10
 
 abbrev pub ratioOf : Structure → ℕ → Ratio
 ratioOf σ code = byCode code (firstRatio σ) (ratio 4 3) (ratio 5 4) (ratio 16 9)

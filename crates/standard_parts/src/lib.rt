@@ -1,34 +1,39 @@
-// What the standard reading makes of the bytes of each field, by E-EDID structure 1.3, and of a ratio by those before it too. Nothing here knows where
-// a slot stands: bytes are named by their place in the block or in their slot.
+// What the standard reading makes of the bytes of each field, by E-EDID structures 1.3 and 1.4, and of a ratio by those before them too. Nothing here
+// knows where a slot stands: bytes are named by their place in the block or in their slot.
 use shared_record::EstablishedTimings;
 use shared_record::SupportedSync;
 use standard_record::Chromaticity;
+use standard_record::Depth;
 use standard_record::DisplayType;
 use standard_record::Features;
 use standard_record::Gamma;
 use standard_record::ImageSize;
+use standard_record::Kind;
 use standard_record::Limits;
 use standard_record::Maker;
 use standard_record::Ratio;
 use standard_record::SecondaryTiming;
 use standard_record::StandardTiming;
 use standard_record::VideoInput;
+use standard_record::Week;
 use standard_record::WhitePoint;
 use steps::Span;
 use timing::Size;
 ghost use mathlib.Core.Path.{_≡_};
+ghost use Prim.Native.Nat.{_≤_};
 ghost use Rattle.shared_record.specs.Established.{establishedTimings};
-ghost use Rattle.standard_parts.specs.Head.{letterOf, makerOf, inputOf, imageOf, gammaOf, typeOf, featuresOf};
+ghost use Rattle.standard_parts.specs.Head.{letterOf, makerOf, weekOf, depthOf, digitalOf, inputOf, ratioAlone, imageOf, gammaOf, typeOf, tellsInterface, kindOf, featuresOf};
 ghost use Rattle.standard_parts.specs.Color.{chromaticityOf, pointOf};
-ghost use Rattle.standard_parts.specs.Structure.{structureOf};
+ghost use Rattle.standard_parts.specs.Structure.{structureOf, since4};
 ghost use Rattle.standard_parts.specs.Timings.{flagsOf, firstRatio, ratioOf, pairOf};
-ghost use Rattle.standard_parts.specs.Descriptors.{limitsOf, secondaryOf, closingRefusal, rangeRefusal};
+ghost use Rattle.standard_parts.specs.Descriptors.{toMin, toMax, offsetsOf, limitsOf, secondaryOf, closingRefusal, rangeRefusal};
 ghost use Rattle.standard_parts.specs.Text.{textLength, spacesOr, allSpaces, isPadded};
 
 // The structure of a block: what its revision decides.
 pub enum Structure {
     Below3,
     From3,
+    From4,
 }
 
 // What two bytes of a standard timing say.
@@ -47,9 +52,21 @@ pub fn structure_of(revision: u8) -> Structure
     ensures { λ r. ⌜ r ≡ structureOf revision ⌝ }
 {
     if revision < 3 {
-        Structure::Below3
-    } else {
-        Structure::From3
+        return Structure::Below3;
+    }
+    if revision < 4 {
+        return Structure::From3;
+    }
+    Structure::From4
+}
+
+pub fn since_4(structure: Structure) -> bool
+    ensures { λ r. ⌜ r ≡ since4 structure ⌝ }
+{
+    match structure {
+        Structure::Below3 => false,
+        Structure::From3 => false,
+        Structure::From4 => true,
     }
 }
 
@@ -76,13 +93,48 @@ pub fn maker_of(b8: u8, b9: u8) -> Maker
     )
 }
 
-pub fn input_of(b20: u8) -> VideoInput
-    ensures { λ r. ⌜ r ≡ inputOf b20 ⌝ }
+pub fn week_of(structure: Structure, b16: u8) -> Week
+    ensures { λ r. ⌜ r ≡ weekOf structure b16 ⌝ }
 {
-    if bits::is_set(b20, 7) {
+    if since_4(structure) {
+        if b16 == 0xff {
+            return Week::ModelYear;
+        }
+    }
+    Week::Made(b16)
+}
+
+fn depth_of(code: u8) -> Depth
+    requires { ⌜ code ≤ 7 ⌝ }
+    ensures { λ r. ⌜ r ≡ depthOf code ⌝ }
+{
+    match code {
+        0 => Depth::Undefined,
+        7 => Depth::Reserved,
+        _ => Depth::Bits(4 + 2 * code),
+    }
+}
+
+fn digital_of(structure: Structure, b20: u8) -> VideoInput
+    ensures { λ r. ⌜ r ≡ digitalOf structure b20 ⌝ }
+{
+    if since_4(structure) {
+        VideoInput::Interface {
+            depth: depth_of(bits::digits(b20, 4, 3)),
+            code: bits::digits(b20, 0, 4),
+        }
+    } else {
         VideoInput::Digital {
             dfp: bits::is_set(b20, 0),
         }
+    }
+}
+
+pub fn input_of(structure: Structure, b20: u8) -> VideoInput
+    ensures { λ r. ⌜ r ≡ inputOf structure b20 ⌝ }
+{
+    if bits::is_set(b20, 7) {
+        digital_of(structure, b20)
     } else {
         VideoInput::Analog {
             level: bits::digits(b20, 5, 2),
@@ -97,14 +149,27 @@ pub fn input_of(b20: u8) -> VideoInput
     }
 }
 
-pub fn image_of(b21: u8, b22: u8) -> ImageSize
-    ensures { λ r. ⌜ r ≡ imageOf b21 b22 ⌝ }
+fn ratio_alone(structure: Structure, width: u16, height: u16) -> ImageSize
+    ensures { λ r. ⌜ r ≡ ratioAlone structure width height ⌝ }
+{
+    if since_4(structure) {
+        ImageSize::Ratio(Ratio { width, height })
+    } else {
+        ImageSize::None
+    }
+}
+
+pub fn image_of(structure: Structure, b21: u8, b22: u8) -> ImageSize
+    ensures { λ r. ⌜ r ≡ imageOf structure b21 b22 ⌝ }
 {
     if b21 == 0 {
-        return ImageSize::None;
+        if b22 == 0 {
+            return ImageSize::None;
+        }
+        return ratio_alone(structure, 100, b22 as u16 + 99);
     }
     if b22 == 0 {
-        return ImageSize::None;
+        return ratio_alone(structure, b21 as u16 + 99, 100);
     }
     ImageSize::Some(Size {
         width: b21 as u16 * 10,
@@ -133,14 +198,37 @@ fn type_of(code: u8) -> DisplayType
     }
 }
 
-pub fn features_of(b24: u8) -> Features
-    ensures { λ r. ⌜ r ≡ featuresOf b24 ⌝ }
+pub fn tells_interface(input: VideoInput) -> bool
+    ensures { λ r. ⌜ r ≡ tellsInterface input ⌝ }
+{
+    match input {
+        VideoInput::Analog { .. } => false,
+        VideoInput::Digital { .. } => false,
+        VideoInput::Interface { .. } => true,
+    }
+}
+
+fn kind_of(encoded: bool, code: u8) -> Kind
+    ensures { λ r. ⌜ r ≡ kindOf encoded code ⌝ }
+{
+    if encoded {
+        Kind::Encodings {
+            ycrcb444: bits::is_set(code, 0),
+            ycrcb422: bits::is_set(code, 1),
+        }
+    } else {
+        Kind::Typed(type_of(code))
+    }
+}
+
+pub fn features_of(input: VideoInput, b24: u8) -> Features
+    ensures { λ r. ⌜ r ≡ featuresOf input b24 ⌝ }
 {
     Features {
         standby: bits::is_set(b24, 7),
         suspend: bits::is_set(b24, 6),
         lowpower: bits::is_set(b24, 5),
-        kind: type_of(bits::digits(b24, 3, 2)),
+        kind: kind_of(tells_interface(input), bits::digits(b24, 3, 2)),
         srgb: bits::is_set(b24, 2),
         preferred: bits::is_set(b24, 1),
         gtf: bits::is_set(b24, 0),
@@ -209,6 +297,10 @@ fn first_ratio(structure: Structure) -> Ratio
             width: 16,
             height: 10,
         },
+        Structure::From4 => Ratio {
+            width: 16,
+            height: 10,
+        },
     }
 }
 
@@ -248,14 +340,34 @@ pub fn pair_of(structure: Structure, low: u8, high: u8) -> Pair
 
 // ---- descriptors
 
-pub fn limits_of(b5: u8, b6: u8, b7: u8, b8: u8, b9: u8) -> Limits
-    ensures { λ r. ⌜ r ≡ limitsOf b5 b6 b7 b8 b9 ⌝ }
+pub fn to_min(code: u8) -> u16
+    ensures { λ r. ⌜ (r ≡ toMin code) × (r ≤ 255) ⌝ }
 {
+    if code == 3 { 255 } else { 0 }
+}
+
+pub fn to_max(code: u8) -> u16
+    ensures { λ r. ⌜ (r ≡ toMax code) × (r ≤ 255) ⌝ }
+{
+    if code < 2 { 0 } else { 255 }
+}
+
+pub fn offsets_of(structure: Structure, b4: u8) -> u8
+    ensures { λ r. ⌜ r ≡ offsetsOf structure b4 ⌝ }
+{
+    if since_4(structure) { b4 } else { 0 }
+}
+
+pub fn limits_of(offsets: u8, b5: u8, b6: u8, b7: u8, b8: u8, b9: u8) -> Limits
+    ensures { λ r. ⌜ r ≡ limitsOf offsets b5 b6 b7 b8 b9 ⌝ }
+{
+    let v = bits::digits(offsets, 0, 2);
+    let h = bits::digits(offsets, 2, 2);
     Limits {
-        vmin: b5,
-        vmax: b6,
-        hmin: b7 as u32 * 1000,
-        hmax: b8 as u32 * 1000,
+        vmin: b5 as u16 + to_min(v),
+        vmax: b6 as u16 + to_max(v),
+        hmin: (b7 as u32 + to_min(h) as u32) * 1000,
+        hmax: (b8 as u32 + to_max(h) as u32) * 1000,
         clock: b9 as u32 * 10000000,
     }
 }

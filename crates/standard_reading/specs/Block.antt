@@ -17,10 +17,10 @@ use Rattle.standard_record.specs.declared.HeldPoint.{HeldPoint}
 use Rattle.standard_record.specs.declared.HeldPair.{HeldPair}
 use Rattle.standard_record.specs.declared.HeldTiming.{HeldTiming}
 use Rattle.standard_record.specs.declared.Held.{Held}
-use Rattle.standard_head.specs.Head.{productIn, versionIn, displayIn, colorsIn}
+use Rattle.standard_head.specs.Head.{structureIn, productIn, versionIn, displayIn, colorsIn}
 use Rattle.standard_parts.specs.Timings.{flagsOf}
 use Rattle.standard_slots.specs.Said.{pairsAt, lists}
-use Rattle.standard_reading.specs.Slots.{structureIn, saidIn, verdictOf}
+use Rattle.standard_reading.specs.Slots.{saidIn, verdictOf}
 
 -- ---- what the block lists
 

@@ -13,9 +13,10 @@ use Rattle.standard_record.specs.Held.{heldPoint, heldPair, heldTiming, held}
 use Rattle.standard_record.specs.declared.Verdict.the-variants.{Accepted}
 use Rattle.standard_record.specs.Seen.{holding, Fits}
 use Rattle.standard_parts.specs.Timings.{flagsOf}
+use Rattle.standard_head.specs.Head.{structureIn}
 use Rattle.standard_slots.specs.Said.{lists}
 use Rattle.standard_slots.specs.Few.{Few, few, NoneButTimings, first-slot, pairs-at-most}
-use Rattle.standard_reading.specs.Slots.{start, structureIn, saidIn}
+use Rattle.standard_reading.specs.Slots.{start, saidIn}
 use Rattle.standard_reading.specs.Block.{timingsOf, eightIn, pairsOf, pointsOf, descriptorsOf, plain, recordOf, beside, standardOf}
 use Rattle.standard_reading.specs.Judged.{end-is-verdict}
 

@@ -1,21 +1,16 @@
 -- The four slots of a block, and the verdict on it.
 use Prim.Native.Nat.{ℕ, zero, suc, _+_, _*_}
 use mathlib.Core.List.{List}
-use Rattle.bits.specs.Bytes.{_!_, part}
+use Rattle.bits.specs.Bytes.{part}
 use Rattle.standard_record.specs.declared.Verdict.{Verdict}
 use Rattle.standard_record.specs.declared.Verdict.the-variants.{Accepted}
-use Rattle.standard_parts.specs.Structure.{structureOf}
-use Rattle.standard_parts.specs.declared.Structure.{Structure}
+use Rattle.standard_head.specs.Head.{structureIn}
 use Rattle.standard_verdict.specs.Verdict.{refusedAt, _then_, beforeSlots}
 use Rattle.standard_slots.specs.Said.{Said, refusal, nothing, timing, pairs, points, described, said}
 
 -- where slot i begins
 abbrev pub start : ℕ → ℕ
 start i = 54 + 18 * i
-
--- by the revision
-abbrev pub structureIn : List ℕ → Structure
-structureIn s = structureOf (s ! 19)
 
 -- what slot i says
 abbrev pub saidIn : List ℕ → ℕ → Said

@@ -103,7 +103,7 @@ fn read_slots(s: &[u8]) -> StandardReading
         let from = at as usize;
         let t = &s[from..from + 18];
         let slot = i as u16 + 1;
-        match standard_slots::said(i, t, at) {
+        match standard_slots::said(structure, i, t, at) {
             Slot::Refused(number) => return refuse(Refusal { number, at: from }),
             Slot::Nothing => {}
             Slot::Timing(timing) => {

@@ -13,10 +13,12 @@ use Rattle.standard_record.specs.declared.StandardRecord.{StandardRecord
 use Rattle.standard_record.specs.declared.Descriptor.the-variants.{Name}
 use Rattle.standard_record.specs.declared.Sync.the-variants.{AnalogComposite}
 use Rattle.standard_record.specs.declared.SyncLine.the-variants.{Green}
+use Rattle.standard_record.specs.declared.Week.the-variants.{Made}
 use Rattle.standard_record.specs.declared.VideoInput.the-variants.{Digital}
 use Rattle.standard_record.specs.declared.ImageSize.the-variants as Size
 use Rattle.standard_record.specs.declared.Gamma.the-variants as Gamma
 use Rattle.standard_record.specs.declared.DisplayType.the-variants.{Monochrome}
+use Rattle.standard_record.specs.declared.Kind.the-variants.{Typed}
 
 abbrev blankChromaticity : Chromaticity
 blankChromaticity = record { x = 0; y = 0 }
@@ -47,7 +49,7 @@ blankHeld = record { descriptor = Name (record { start = 0; len = 0 }); slot = 0
 
 unfoldable pub blank : StandardRecord
 blank = record {
-  product = record { maker = record { 0 = 0; 1 = 0; 2 = 0 }; code = 0; serial = 0; week = 0; year = 0 };
+  product = record { maker = record { 0 = 0; 1 = 0; 2 = 0 }; code = 0; serial = 0; week = Made 0; year = 0 };
   version = record { version = 0; revision = 0 };
   display = record {
     input = Digital false;
@@ -57,7 +59,7 @@ blank = record {
       standby = false;
       suspend = false;
       lowpower = false;
-      kind = Monochrome;
+      kind = Typed Monochrome;
       srgb = false;
       preferred = false;
       gtf = false;

@@ -1,4 +1,4 @@
-// The standard reading's record, by E-EDID structure 1.3, in whole numbers: every type of it, and one filler for each list.
+// The standard reading's record, by E-EDID structures 1.3 and 1.4, in whole numbers: every type of it, and one filler for each list.
 // A field that a definition names has no `_` in its name.
 use shared_record::EstablishedTimings;
 use shared_record::SupportedSync;
@@ -19,15 +19,29 @@ ghost use Rattle.standard_record.specs.Filler.{blank};
 // Three capital letters; 0 stands for a code that is no letter.
 pub struct Maker(pub u8, pub u8, pub u8);
 
+// The week of manufacture; or none, the year being that of the model, from revision 4 on.
+pub enum Week {
+    Made(u8),
+    ModelYear,
+}
+
 pub struct Product {
     pub maker: Maker,
     pub code: u16,
     pub serial: u32,
-    pub week: u8,
+    pub week: Week,
     pub year: u16,
 }
 
-// `level` is the code of the signal levels: 0.700/0.300, 0.714/0.286, 1.000/0.400, 0.700/0.000 V.
+// Of a colour, in bits.
+pub enum Depth {
+    Undefined,
+    Bits(u8),
+    Reserved,
+}
+
+// `level` is the code of the signal levels: 0.700/0.300, 0.714/0.286, 1.000/0.400, 0.700/0.000 V. A digital input is told by its depth and the code of its
+// interface from revision 4 on.
 pub enum VideoInput {
     Analog {
         level: u8,
@@ -37,12 +51,17 @@ pub enum VideoInput {
     Digital {
         dfp: bool,
     },
+    Interface {
+        depth: Depth,
+        code: u8,
+    },
 }
 
-// In millimetres.
+// In millimetres; or a ratio alone, from revision 4 on.
 pub enum ImageSize {
     None,
     Some(Size),
+    Ratio(Ratio),
 }
 
 // In hundredths.
@@ -58,11 +77,17 @@ pub enum DisplayType {
     Undefined,
 }
 
+// A type; or, where the input tells its interface, the colour encodings beside RGB 4:4:4.
+pub enum Kind {
+    Typed(DisplayType),
+    Encodings { ycrcb444: bool, ycrcb422: bool },
+}
+
 pub struct Features {
     pub standby: bool,
     pub suspend: bool,
     pub lowpower: bool,
-    pub kind: DisplayType,
+    pub kind: Kind,
     pub srgb: bool,
     pub preferred: bool,
     pub gtf: bool,
@@ -172,8 +197,8 @@ pub struct Timings {
 
 // In Hz.
 pub struct Limits {
-    pub vmin: u8,
-    pub vmax: u8,
+    pub vmin: u16,
+    pub vmax: u16,
     pub hmin: u32,
     pub hmax: u32,
     pub clock: u32,
@@ -334,7 +359,7 @@ const BLANK: StandardRecord = StandardRecord {
         maker: Maker(0, 0, 0),
         code: 0,
         serial: 0,
-        week: 0,
+        week: Week::Made(0),
         year: 0,
     },
     version: Version {
@@ -349,7 +374,7 @@ const BLANK: StandardRecord = StandardRecord {
             standby: false,
             suspend: false,
             lowpower: false,
-            kind: DisplayType::Monochrome,
+            kind: Kind::Typed(DisplayType::Monochrome),
             srgb: false,
             preferred: false,
             gtf: false,

@@ -38,8 +38,8 @@ unfolding sync polarity flat flag
 digital = refl
 
 range : heldLine [] (record {
-  descriptor = Range (record { vmin = 50; vmax = 75; hmin = 30000; hmax = 80000; clock = 130000000 }) (GTF 80000 80 600 128 40);
+  descriptor = Range (record { vmin = 50; vmax = 510; hmin = 30000; hmax = 510000; clock = 130000000 }) (GTF 80000 80 600 128 40);
   slot = 4;
-}) ≡ text "range 50 75 30000 80000 130000000 gtf 80000 80 600 128 40 4\n"
+}) ≡ text "range 50 510 30000 510000 130000000 gtf 80000 80 600 128 40 4\n"
 unfolding heldLine descriptorFields rangeFields limits secondary flat field8 field16 field32 decimalIn
 range = refl

@@ -55,7 +55,7 @@ secondary s (Secondary.Other kind d) = flat (text " other" ∷ raw s kind d ∷ 
 
 unfoldable pub rangeFields : List ℕ → Limits → SecondaryTiming → List ℕ
 rangeFields s l t =
-    flat (limits (l .vmin) (l .vmax) (l .hmin) (l .hmax) (l .clock) ∷ secondary s t ∷ [])
+    flat (text "range" ∷ field16 (l .vmin) ∷ field16 (l .vmax) ∷ limits (l .hmin) (l .hmax) (l .clock) ∷ secondary s t ∷ [])
 
 unfoldable pub descriptorFields : List ℕ → Descriptor → List ℕ
 descriptorFields s (Serial d) = textFields (text "serial") d

@@ -55,13 +55,13 @@ secondary-length s (Secondary.GTF start c m k j) =
     simp length-append (omega (arith, field32-length start, field8-length c, field16-length m, field8-length k, field8-length j))
 secondary-length s (Secondary.Other kind d) = simp length-append (omega (arith, raw-length s kind d))
 
-range-length : (s : List ℕ) (l : Limits) (t : SecondaryTiming) → length (rangeFields s l t) ≤ 83
+range-length : (s : List ℕ) (l : Limits) (t : SecondaryTiming) → length (rangeFields s l t) ≤ 87
 unfolding rangeFields flat
 range-length s l t =
     simp length-append
-    (omega (arith, limits-length (l .vmin) (l .vmax) (l .hmin) (l .hmax) (l .clock), secondary-length s t))
+    (omega (arith, field16-length (l .vmin), field16-length (l .vmax), limits-length (l .hmin) (l .hmax) (l .clock), secondary-length s t))
 
-descriptor-length : (s : List ℕ) (t : Descriptor) → length (descriptorFields s t) ≤ 83
+descriptor-length : (s : List ℕ) (t : Descriptor) → length (descriptorFields s t) ≤ 87
 unfolding descriptorFields flat
 descriptor-length s (Serial d) = omega (arith, text-fields-length (text "serial") d)
 descriptor-length s (Text d) = omega (arith, text-fields-length (text "text") d)
@@ -70,10 +70,10 @@ descriptor-length s (Name d) = omega (arith, text-fields-length (text "name") d)
 descriptor-length s (Undefined tag d) = omega (arith, run-fields-length (text "undefined") s tag d)
 descriptor-length s (MakerDefined tag d) = omega (arith, run-fields-length (text "maker") s tag d)
 
-held-length : (s : List ℕ) (h : Held) → length (heldLine s h) ≤ 90
+held-length : (s : List ℕ) (h : Held) → length (heldLine s h) ≤ 94
 unfolding heldLine flat
 held-length s h = simp length-append (omega (arith, descriptor-length s (h .descriptor), field16-length (h .slot)))
 
-pub descriptor-lengths : (s : List ℕ) (l : Descriptors) → length (descriptorLines s l) ≤ 270
+pub descriptor-lengths : (s : List ℕ) (l : Descriptors) → length (descriptorLines s l) ≤ 282
 unfolding descriptorLines
-descriptor-lengths s l = first-length (heldLine s) 90 3 (held-length s) (l .len) (l .items)
+descriptor-lengths s l = first-length (heldLine s) 94 3 (held-length s) (l .len) (l .items)

@@ -26,7 +26,7 @@ pub record Each (P : Said → Type 0) (σ : Structure) (t : List ℕ) (at : ℕ)
   pub name : P (described (Descriptor.Name (textIn t at)))
   pub text : P (described (Descriptor.Text (textIn t at)))
   pub serial : P (described (Descriptor.Serial (textIn t at)))
-  pub range : P (described (rangeIn t at))
+  pub range : P (described (rangeIn σ t at))
   pub raw : P (described (rawOf (t ! 3) (record { start = at + 5; len = 13 })))
 
 -- of both, so of either
@@ -57,7 +57,7 @@ module _ (P : Said → Type 0) (σ : Structure) (t : List ℕ) (at : ℕ) (e : E
   by-tag Tag.Pairs = closing (pairs (pairsIn σ t)) (t ! 17) true (e .listed)
   by-tag Tag.Points = closing (points (pointsIn t)) (t ! 15) (allSpaces (part t 16 2)) (e .pointed)
   by-tag Tag.Name = padding (described (Descriptor.Name (textIn t at))) (isPadded (part t 5 13) (textIn t at .len)) (e .name)
-  by-tag Tag.Range = ranges (described (rangeIn t at)) (t ! 10) (t ! 11) (allSpaces (part t 12 6)) (e .range)
+  by-tag Tag.Range = ranges (described (rangeIn σ t at)) (t ! 10) (t ! 11) (allSpaces (part t 12 6)) (e .range)
   by-tag Tag.Text = padding (described (Descriptor.Text (textIn t at))) (isPadded (part t 5 13) (textIn t at .len)) (e .text)
   by-tag Tag.Serial = padding (described (Descriptor.Serial (textIn t at))) (isPadded (part t 5 13) (textIn t at .len)) (e .serial)
   by-tag Tag.Raw = e .raw

@@ -12,13 +12,14 @@ use Rattle.tags.specs.declared.Tag.{Tag}
 use Rattle.standard_record.specs.declared.DetailedTiming.{DetailedTiming}
 use Rattle.standard_record.specs.declared.StandardTiming.{StandardTiming}
 use Rattle.standard_record.specs.declared.WhitePoint.{WhitePoint}
+use Rattle.standard_record.specs.declared.Limits.{Limits}
 use Rattle.standard_record.specs.declared.Descriptor.{Descriptor}
 use Rattle.standard_record.specs.declared.Descriptor.the-variants.{Serial, Text, Range, Name, Undefined, MakerDefined}
 use Rattle.standard_timing.specs.Timing.{clockIn, timingIn}
 use Rattle.standard_timing.specs.declared.Timed.{Timed}
 use Rattle.standard_parts.specs.Color.{pointOf}
 use Rattle.standard_parts.specs.Timings.{pairOf}
-use Rattle.standard_parts.specs.Descriptors.{limitsOf, secondaryOf, closingRefusal, rangeRefusal}
+use Rattle.standard_parts.specs.Descriptors.{offsetsOf, limitsOf, secondaryOf, closingRefusal, rangeRefusal}
 use Rattle.standard_parts.specs.Text.{textLength, allSpaces, isPadded}
 use Rattle.standard_parts.specs.declared.Structure.{Structure}
 use Rattle.standard_parts.specs.declared.Pair.{Pair}
@@ -77,10 +78,13 @@ paddingRefusal t n = cond (isPadded (part t 5 13) n) 0 5
 abbrev pub textAs : (Span → Descriptor) → List ℕ → ℕ → Said
 textAs d t at = unless (paddingRefusal t (textIn t at .len)) (described (d (textIn t at)))
 
-unfoldable pub rangeIn : List ℕ → ℕ → Descriptor
-rangeIn t at =
+abbrev pub limitsIn : Structure → List ℕ → Limits
+limitsIn σ t = limitsOf (offsetsOf σ (t ! 4)) (t ! 5) (t ! 6) (t ! 7) (t ! 8) (t ! 9)
+
+unfoldable pub rangeIn : Structure → List ℕ → ℕ → Descriptor
+rangeIn σ t at =
     Range
-    (limitsOf (t ! 5) (t ! 6) (t ! 7) (t ! 8) (t ! 9))
+    (limitsIn σ t)
     (secondaryOf (t ! 10) (t ! 12) (t ! 13) (t ! 14) (t ! 15) (t ! 16) (t ! 17) (record { start = at + 11; len = 7 }))
 
 -- the maker's bytes below 0x10, else undefined ones
@@ -100,7 +104,7 @@ byTag σ Tag.Dummy t at = nothing
 byTag σ Tag.Pairs t at = unless (closingRefusal (t ! 17) true) (pairs (pairsIn σ t))
 byTag σ Tag.Points t at = unless (closingRefusal (t ! 15) (allSpaces (part t 16 2))) (points (pointsIn t))
 byTag σ Tag.Name t at = textAs Name t at
-byTag σ Tag.Range t at = unless (rangeRefusal (t ! 10) (t ! 11) (allSpaces (part t 12 6))) (described (rangeIn t at))
+byTag σ Tag.Range t at = unless (rangeRefusal (t ! 10) (t ! 11) (allSpaces (part t 12 6))) (described (rangeIn σ t at))
 byTag σ Tag.Text t at = textAs Text t at
 byTag σ Tag.Serial t at = textAs Serial t at
 byTag σ Tag.Raw t at = described (rawOf (t ! 3) (record { start = at + 5; len = 13 }))

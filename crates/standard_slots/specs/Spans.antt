@@ -65,9 +65,9 @@ module _ (s : List ℕ) (at n : ℕ) (room : at + 18 ≤ n) (whole : at + 18 ≤
         behind = λ h. (omega arith, sym (text-at _ h) ∙ q .behind (omega arith));
       }
 
-  sound-range : Sound s (rangeIn (part s at 18) at) n
+  sound-range : (σ : Structure) → Sound s (rangeIn σ (part s at 18) at) n
   unfolding rangeIn secondaryOf
-  sound-range =
+  sound-range σ =
       let kind : ℕ = part s at 18 ! 10 in
       let holds : SecondaryTiming → Type 0 = λ x. SoundSecond x n in
       either holds (eqb kind 0) tt (either holds (eqb kind 2) tt (omega arith))
@@ -86,6 +86,6 @@ module _ (s : List ℕ) (at n : ℕ) (room : at + 18 ≤ n) (whole : at + 18 ≤
         name = (sound-text, tt);
         text = (sound-text, tt);
         serial = (sound-text, tt);
-        range = (sound-range, tt);
+        range = (sound-range σ, tt);
         raw = (sound-raw, tt);
       })

@@ -1,8 +1,10 @@
 // What one slot of a block says: it is judged and read by the same look, but for the pairs of an fa slot, which are read where they are
-// listed: so the answer is one for every structure σ. Past the end of t every byte is 0.
+// listed. Past the end of t every byte is 0.
 use standard_parts::Point;
+use standard_parts::Structure;
 use standard_record::Descriptor;
 use standard_record::DetailedTiming;
+use standard_record::Limits;
 use standard_record::WhitePoint;
 use standard_timing::Timed;
 use steps::Span;
@@ -10,8 +12,7 @@ use tags::Tag;
 ghost use mathlib.Core.Path.{_≡_};
 ghost use mathlib.Core.List.{List};
 ghost use Rattle.standard_record.specs.declared.StandardTiming.{StandardTiming};
-ghost use Rattle.standard_parts.specs.declared.Structure.{Structure};
-ghost use Rattle.standard_slots.specs.Said.{unless, pairsIn, pointAt, pointsIn, textIn, paddingRefusal, rangeIn, rawOf, byTag, said};
+ghost use Rattle.standard_slots.specs.Said.{unless, pairsIn, pointAt, pointsIn, textIn, paddingRefusal, limitsIn, rangeIn, rawOf, byTag, said};
 ghost use Rattle.standard_slots.specs.Answers.{ofPoints, ofSlot};
 
 // The white points of an fb slot.
@@ -81,17 +82,24 @@ fn padding_refusal(t: &[u8], n: usize) -> u8
     }
 }
 
-fn range_in(t: &[u8], at: u8) -> Descriptor
-    ensures { λ r. ⌜ r ≡ rangeIn (now (t .entry)) at ⌝ }
+fn limits_in(structure: Structure, t: &[u8]) -> Limits
+    ensures { λ r. ⌜ r ≡ limitsIn structure (now (t .entry)) ⌝ }
+{
+    standard_parts::limits_of(
+        standard_parts::offsets_of(structure, bits::byte_at(t, 4)),
+        bits::byte_at(t, 5),
+        bits::byte_at(t, 6),
+        bits::byte_at(t, 7),
+        bits::byte_at(t, 8),
+        bits::byte_at(t, 9),
+    )
+}
+
+fn range_in(structure: Structure, t: &[u8], at: u8) -> Descriptor
+    ensures { λ r. ⌜ r ≡ rangeIn structure (now (t .entry)) at ⌝ }
 {
     Descriptor::Range {
-        limits: standard_parts::limits_of(
-            bits::byte_at(t, 5),
-            bits::byte_at(t, 6),
-            bits::byte_at(t, 7),
-            bits::byte_at(t, 8),
-            bits::byte_at(t, 9),
-        ),
+        limits: limits_in(structure, t),
         secondary: standard_parts::secondary_of(
             bits::byte_at(t, 10),
             bits::byte_at(t, 12),
@@ -131,8 +139,8 @@ fn unless(number: u8, x: Slot) -> Slot
     }
 }
 
-fn by_tag(tag: Tag, t: &[u8], at: u8) -> Slot
-    ensures { λ r. ⌜ ((σ : Structure) → ofSlot (pairsIn σ (now (t .entry))) r ≡ byTag σ tag (now (t .entry)) at) ⌝ }
+fn by_tag(structure: Structure, tag: Tag, t: &[u8], at: u8) -> Slot
+    ensures { λ r. ⌜ ofSlot (pairsIn structure (now (t .entry))) r ≡ byTag structure tag (now (t .entry)) at ⌝ }
 {
     match tag {
         Tag::Dummy => Slot::Nothing,
@@ -160,7 +168,7 @@ fn by_tag(tag: Tag, t: &[u8], at: u8) -> Slot
                 bits::byte_at(t, 11),
                 standard_parts::all_spaces(bits::part(t, 12, 6)),
             ),
-            Slot::Described(range_in(t, at)),
+            Slot::Described(range_in(structure, t, at)),
         ),
         Tag::Text => {
             let text = text_in(t, at);
@@ -186,14 +194,14 @@ fn by_tag(tag: Tag, t: &[u8], at: u8) -> Slot
     }
 }
 
-pub fn said(i: u8, t: &[u8], at: u8) -> Slot
-    ensures { λ r. ⌜ ((σ : Structure) → ofSlot (pairsIn σ (now (t .entry))) r ≡ said σ i (now (t .entry)) at) ⌝ }
+pub fn said(structure: Structure, i: u8, t: &[u8], at: u8) -> Slot
+    ensures { λ r. ⌜ ofSlot (pairsIn structure (now (t .entry))) r ≡ said structure i (now (t .entry)) at ⌝ }
 {
     if standard_timing::clock_in(t) == 0 {
         if i == 0 {
             Slot::Refused(3)
         } else {
-            by_tag(tags::tag_of(bits::byte_at(t, 3)), t, at)
+            by_tag(structure, tags::tag_of(bits::byte_at(t, 3)), t, at)
         }
     } else {
         match standard_timing::timing_in(t) {

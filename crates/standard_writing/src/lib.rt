@@ -106,9 +106,9 @@ fn pairs_turn(six: PairsBytes, at: Place) -> Turn
 }
 
 // White points, a descriptor or nothing.
-fn other_turn(ps: Points, d: NextDescriptor, lent: &[u8], at: Place) -> Turn
+fn other_turn(structure: Structure, ps: Points, d: NextDescriptor, lent: &[u8], at: Place) -> Turn
     requires { ⌜ Small at ⌝ }
-    ensures { λ t. ⌜ ((σ : Structure) → Turned σ (now (lent .entry)) at (t .after) (t .slot .fits) (t .slot .bytes) (first [] [] (ofPoints ps) (ofDescriptor d))) ⌝ }
+    ensures { λ t. ⌜ Turned structure (now (lent .entry)) at (t .after) (t .slot .fits) (t .slot .bytes) (first [] [] (ofPoints ps) (ofDescriptor d)) ⌝ }
 {
     let timed = at.timed;
     let listed = at.listed;
@@ -126,7 +126,7 @@ fn other_turn(ps: Points, d: NextDescriptor, lent: &[u8], at: Place) -> Turn
     }
     match d {
         NextDescriptor::Is(x) => turn_of(
-            write_slots::descriptor_bytes(x, lent),
+            write_slots::descriptor_bytes(structure, x, lent),
             timed,
             listed,
             pointed,
@@ -252,7 +252,7 @@ fn fill_slots(
                         r.descriptors.len,
                         n,
                     );
-                    other_turn(write_next::two_points(p, q), d, lent, at)
+                    other_turn(structure, write_next::two_points(p, q), d, lent, at)
                 }
             }
         };

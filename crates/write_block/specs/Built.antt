@@ -19,10 +19,10 @@ use Rattle.shared_record.specs.declared.Version.{Version}
 use Rattle.standard_record.specs.declared.Verdict.the-variants.{Accepted}
 use Rattle.standard_parts.specs.Structure.{structureOf}
 use Rattle.standard_parts.specs.declared.Structure.{Structure}
-use Rattle.standard_head.specs.Head.{productIn, colorsIn}
+use Rattle.standard_head.specs.Head.{structureIn, productIn, colorsIn}
 use Rattle.standard_verdict.specs.Verdict.{beforeSlots}
 use Rattle.standard_slots.specs.Said.{Said, refusal, nothing, timing, pairs, points, described, lists, pairsAt, said}
-use Rattle.standard_reading.specs.Slots.{start, structureIn, saidIn, judge, judged}
+use Rattle.standard_reading.specs.Slots.{start, saidIn, judge, judged}
 use Rattle.standard_reading.specs.Block.{timingsOf, eightIn, pairsOf, pointsOf, descriptorsOf, plain}
 use Rattle.standard_reading.specs.Judged.{end-is-verdict}
 use Rattle.standard_reading.specs.Room.{fits, accepted}

@@ -24,9 +24,9 @@ use Rattle.write_timing.specs.Dropped.{no-stereo}
 use Rattle.write_pairs.specs.Pairs.{pairsBytes}
 use Rattle.write_slots.specs.Words.{Words}
 use Rattle.write_slots.specs.Slot.{tagged, slotBytes}
-use Rattle.write_slots.specs.Dropped.{beside-tag, unused-slot, point-digits, unused-point, HasText, padded}
+use Rattle.write_slots.specs.Dropped.{behindTag, beside-tag, unused-slot, point-digits, unused-point, HasText, padded}
 use Rattle.write_head.specs.Front.{frontBytes}
-use Rattle.write_head.specs.Dropped.{before-letters, no-letters, digital-input, no-size, behind-flags}
+use Rattle.write_head.specs.Dropped.{before-letters, no-letters, digital-input, no-size, even-ratio, behind-flags}
 use Rattle.write_block.specs.Shown.{Shown, shown, worded}
 use Rattle.write_block.specs.Canonical.{eightOf, body, blockOf}
 use Rattle.write_block.specs.Gives.{Written}
@@ -56,13 +56,14 @@ pub record Dropped (x : Shown) (b : List ℕ) : Type 0 where
   pub third-letter : x .front .product .maker .2 ≡ 0 → digits (b ! 9 + 256 * b ! 8) 0 5 ≡ 0
   pub input : (dfp : Bool) → x .front .display .input ≡ Digital dfp → b ! 20 ≡ 128 + digit dfp
   pub size : x .front .display .size ≡ Image.None → (b ! 21 ≡ 0) × (b ! 22 ≡ 0)
+  pub ratio : x .front .display .size ≡ Image.Ratio (record { width = 100; height = 100 }) → (b ! 21 ≡ 1) × (b ! 22 ≡ 0)
   pub flags : b ! 37 % 128 ≡ 0
   -- pairs stand at the front, and 01 01 behind them
   pub eight : part b 38 16 ≡ pairsBytes 8 (eightOf x)
   pub six : (i : ℕ) → i < 4 → timingsIn x i ≡ [] → (p : StandardTiming) (ps : List StandardTiming) → pairsIn x i ≡ p ∷ ps
       → part (part b (start i) 18) 5 12 ≡ pairsBytes 6 (p ∷ ps)
   pub stereo : (i : ℕ) → i < 4 → (d : DetailedTiming) (ts : List DetailedTiming) → timingsIn x i ≡ d ∷ ts → d .stereo ≡ Stereo.None → b ! (start i + 17) % 2 ≡ 0
-  pub tags : (i : ℕ) → i < 4 → timingsIn x i ≡ [] → (b ! (start i + 2) ≡ 0) × (b ! (start i + 4) ≡ 0)
+  pub tags : (i : ℕ) → i < 4 → timingsIn x i ≡ [] → (b ! (start i + 2) ≡ 0) × (b ! (start i + 4) ≡ behindTag (pairsIn x i) (pointsIn x i) (wordsIn x i))
   pub points : (i : ℕ) → i < 4 → timingsIn x i ≡ [] → pairsIn x i ≡ [] → (w : WhitePoint) (ws : List WhitePoint) → pointsIn x i ≡ w ∷ ws
       → (b ! (start i + 6) < 16) × (b ! (start i + 11) < 16)
   -- one point alone: bytes 10 to 14 of the slot
@@ -92,6 +93,7 @@ dropped x = record {
   third-letter = no-letters (x .front) .2;
   input = digital-input (x .front);
   size = no-size (x .front);
+  ratio = even-ratio (x .front);
   flags = behind-flags (x .front);
   eight = canonical-pairs x;
   six = λ i h e p ps q. rw (canonical-slot x i h, e, q) (slot-six p ps _ _);

@@ -15,12 +15,13 @@ use Rattle.standard_record.specs.declared.Descriptor.{Descriptor}
 use Rattle.standard_record.specs.declared.Verdict.{Verdict}
 use Rattle.standard_record.specs.declared.Verdict.the-variants.{Accepted}
 use Rattle.standard_timing.specs.Timing.{clockIn}
+use Rattle.standard_head.specs.Head.{structureIn}
 use Rattle.standard_verdict.specs.Laws.{has-header, has-version}
 use Rattle.standard_parts.specs.Structure.{structureOf}
 use Rattle.standard_parts.specs.declared.Structure.{Structure}
 use Rattle.standard_slots.specs.Said.{Said, refusal, nothing, timing, pairs, points, described, lists, said}
 use Rattle.standard_slots.specs.Few.{Few, few, pairs-at-most}
-use Rattle.standard_reading.specs.Slots.{start, structureIn, saidIn, judge}
+use Rattle.standard_reading.specs.Slots.{start, saidIn, judge}
 use Rattle.standard_reading.specs.Block.{eightIn, plain}
 use Rattle.standard_reading.specs.Judged.{accepted-before, accepted-slot, accepted-has-128}
 use Rattle.standard_reading.specs.Room.{fits, accepted}

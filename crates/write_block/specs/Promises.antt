@@ -4,7 +4,7 @@ use mathlib.Core.Path.{_≡_, refl, sym, ap, _∙_}
 use mathlib.Core.List.{List, _∷_, _++_}
 use native.Mathlib.Omega.{arith}
 use lib.ListN.{length}
-use borrow.Author.Tests.{lt-ltb, le-ltb}
+use borrow.Author.Tests.{lt-ltb}
 use Rattle.sums.specs.Sum.{byteSum}
 use Rattle.sums.specs.Joined.{checksum-makes-zero}
 use Rattle.standard_record.specs.Seen.{seen}
@@ -86,7 +86,7 @@ module _ {r : StandardRecord} {lent before after : List ℕ} {number : ℕ} wher
 
   pub new-1-1-is-refused : Written r lent before number after → length before ≡ 128 → 3 ≤ seen r .version .revision → (fs bs : List HeldPair) (h : HeldPair)
       → seen r .standard ≡ fs ++ h ∷ bs → h .pair .ratio ≡ ratio 1 1 → number ≡ 11
-  new-1-1-is-refused w size new fs bs h is e = uncoded-is-refused w size fs bs h is (λ c. no-1-1 (rw (le-ltb _ _ new, e) at c))
+  new-1-1-is-refused w size new fs bs h is e = uncoded-is-refused w size fs bs h is (λ c. no-1-1 _ new (rw e at c))
 
 -- the record of every accepted block is written
 pub read-is-written : (b : List ℕ) {before after : List ℕ} {number : ℕ} → Bytes b → standardOf b .end ≡ Accepted

@@ -1,10 +1,11 @@
 -- In a record that a block gives each pair has a ratio that some code means in the record's structure.
-use Prim.Native.Nat.{ℕ, _<_}
+use Prim.Native.Nat.{ℕ, _<_, _≤_}
 use mathlib.Core.Path.{_≡_, refl, subst}
 use mathlib.Core.Bool.{Bool, true, false, cond}
 use mathlib.Core.List.{List, [], _∷_, map, append-nil}
 use native.Mathlib.Omega.{arith}
-use lib.Dec.{eqb}
+use lib.Dec.{eqb, ltb}
+use borrow.Author.Tests.{le-ltb}
 use Rattle.bits.specs.Bytes.{part}
 use Rattle.standard_record.specs.Seen.{Seen, seen}
 use Rattle.standard_record.specs.Held.{heldPair}
@@ -12,6 +13,7 @@ use Rattle.standard_record.specs.declared.Ratio.{Ratio}
 use Rattle.standard_record.specs.declared.StandardTiming.{StandardTiming}
 use Rattle.standard_record.specs.declared.StandardRecord.{StandardRecord}
 use Rattle.standard_record.specs.declared.HeldPair.{HeldPair}
+use Rattle.standard_parts.specs.Structure.{structureOf}
 use Rattle.standard_parts.specs.Timings.{ratio, firstRatio, ratioOf}
 use Rattle.standard_parts.specs.declared.Structure.{Structure}
 use Rattle.standard_slots.specs.Said.{said}
@@ -47,8 +49,15 @@ of-four P σ first second third fourth r (code, e) = subst P e (go (eqb code 0) 
 pub no-16-10 : Coded Structure.Below3 (ratio 16 10) → ⊥
 no-16-10 h = of-four (λ r. r .height ≡ 10 → ⊥) Structure.Below3 (λ e. omega arith) (λ e. omega arith) (λ e. omega arith) (λ e. omega arith) (ratio 16 10) h refl
 
-pub no-1-1 : Coded Structure.From3 (ratio 1 1) → ⊥
-no-1-1 h = of-four (λ r. r .width ≡ 1 → ⊥) Structure.From3 (λ e. omega arith) (λ e. omega arith) (λ e. omega arith) (λ e. omega arith) (ratio 1 1) h refl
+pub no-1-1 : (revision : ℕ) → 3 ≤ revision → Coded (structureOf revision) (ratio 1 1) → ⊥
+no-1-1 revision new h = go (ltb revision 4) (rw (le-ltb revision 3 new) at h)
+  where
+    none : (σ : Structure) → (firstRatio σ .width ≡ 1 → ⊥) → Coded σ (ratio 1 1) → ⊥
+    none σ first h = of-four (λ r. r .width ≡ 1 → ⊥) σ first (λ e. omega arith) (λ e. omega arith) (λ e. omega arith) (ratio 1 1) h refl
+
+    go : (t : Bool) → Coded (cond t Structure.From3 Structure.From4) (ratio 1 1) → ⊥
+    go true h = none Structure.From3 (λ e. omega arith) h
+    go false h = none Structure.From4 (λ e. omega arith) h
 
 -- ---- the record
 

@@ -1,5 +1,5 @@
 -- Worked cases, computed: records made of the specimen's front and the lists that stand here, and what is written of each.
-use Prim.Native.Nat.{ℕ}
+use Prim.Native.Nat.{ℕ, _+_, _*_}
 use mathlib.Core.Path.{_≡_, refl, sym, ap, _∙_}
 use mathlib.Core.Bool.{Bool, true, false, cond, true≢false}
 use mathlib.Core.List.{List, [], _∷_}
@@ -20,8 +20,22 @@ use Rattle.standard_record.specs.declared.HeldTiming.{HeldTiming}
 use Rattle.standard_record.specs.declared.HeldPair.{HeldPair}
 use Rattle.standard_record.specs.declared.Held.{Held}
 use Rattle.standard_record.specs.declared.Descriptor.{Descriptor}
-use Rattle.standard_record.specs.declared.Descriptor.the-variants.{Name, MakerDefined}
+use Rattle.standard_record.specs.declared.Descriptor.the-variants.{Name, Range, MakerDefined}
+use Rattle.standard_record.specs.declared.SecondaryTiming.the-variants.{None}
+use Rattle.standard_record.specs.declared.Limits.{Limits}
 use Rattle.standard_record.specs.declared.Sync.the-variants.{DigitalSeparate}
+use Rattle.standard_record.specs.declared.Week.{Week}
+use Rattle.standard_record.specs.declared.Week.the-variants.{Made, ModelYear}
+use Rattle.standard_record.specs.declared.Depth.{Depth}
+use Rattle.standard_record.specs.declared.Depth.the-variants as Depth
+use Rattle.standard_record.specs.declared.VideoInput.{VideoInput}
+use Rattle.standard_record.specs.declared.VideoInput.the-variants.{Analog, Digital, Interface}
+use Rattle.standard_record.specs.declared.ImageSize.{ImageSize}
+use Rattle.standard_record.specs.declared.ImageSize.the-variants as Image
+use Rattle.standard_record.specs.declared.Gamma.the-variants as Gamma
+use Rattle.standard_record.specs.declared.DisplayType.the-variants.{RGBColor}
+use Rattle.standard_record.specs.declared.Kind.{Kind}
+use Rattle.standard_record.specs.declared.Kind.the-variants.{Typed, Encodings}
 use Rattle.standard_record.specs.declared.Verdict.{Verdict}
 use Rattle.standard_record.specs.declared.Verdict.the-variants.{Accepted, Refused}
 use Rattle.standard_timing.specs.Timing.{timingIn}
@@ -30,8 +44,8 @@ use Rattle.standard_parts.specs.Text.{every}
 use Rattle.standard_parts.specs.Timings.{flagsOf, pairOf}
 use Rattle.standard_head.specs.Head.{productIn, displayIn, colorsIn}
 use Rattle.standard_verdict.specs.Verdict.{beforeSlots}
-use Rattle.standard_slots.specs.Said.{said, pointAt}
-use Rattle.standard_parts.specs.Descriptors.{closingRefusal}
+use Rattle.standard_slots.specs.Said.{said, pointAt, rangeIn}
+use Rattle.standard_parts.specs.Descriptors.{limitsOf, secondaryOf, closingRefusal, rangeRefusal}
 use Rattle.standard_parts.specs.Color.{pointOf}
 use Rattle.write_parts.specs.Point.{pointBytes}
 use Rattle.standard_reading.specs.Slots.{judged, verdictOf}
@@ -51,7 +65,7 @@ use Rattle.write_block.specs.Gives.{NoneGives, Written, wrong-length, no-block,
 use Rattle.write_block.specs.Given.{same}
 use Rattle.write_block.specs.Promises.{refused-if}
 use Rattle.demands.specs.Specimen.{specimen}
-use Rattle.demands.specs.Panels.{ratioBlock}
+use Rattle.demands.specs.Panels.{ratioBlock, headBlock, fdSlot, limitsBlock, Head, old, new, rates}
 
 -- ---- the records
 
@@ -86,6 +100,26 @@ panelOf revision ts ps ds = holding (record {
   established = flagsIn specimen;
   standard = ps;
   detailed = ts;
+  descriptors = ds;
+  extensions = 0;
+})
+
+-- its lists, with this head
+unfoldable pub headed : Head → List Held → StandardRecord
+headed head ds = holding (record {
+  product = record { maker = productIn specimen .maker; code = 4660; serial = 1; week = head .week; year = 2020 };
+  version = record { version = 1; revision = head .revision };
+  display = record {
+    input = head .input;
+    size = head .size;
+    gamma = Gamma.Some 200;
+    features = record { standby = false; suspend = false; lowpower = false; kind = head .kind; srgb = false; preferred = true; gtf = false };
+  };
+  basic = colorsIn specimen;
+  points = [];
+  established = flagsIn specimen;
+  standard = heldPair .wrap 0 (mode 1280 5 4 60) ∷ [];
+  detailed = heldTiming .wrap 1 (lobby 40000000 40) ∷ [];
   descriptors = ds;
   extensions = 0;
 })
@@ -144,6 +178,31 @@ careful =
     0x4f ∷ 0x0a ∷ 0x20 ∷ 0x20 ∷ 0x20 ∷ 0x20 ∷ 0x20 ∷ 0x20 ∷ 0x20 ∷ 0x20 ∷ 0x20 ∷ 0x20 ∷ 0x00 ∷ 0x00 ∷ 0x00 ∷ 0x10 ∷
     0x00 ∷ 0x00 ∷ 0x00 ∷ 0x00 ∷ 0x00 ∷ 0x00 ∷ 0x00 ∷ 0x00 ∷ 0x00 ∷ 0x00 ∷ 0x00 ∷ 0x00 ∷ 0x00 ∷ 0x00 ∷ 0x00 ∷ 0x8c ∷ []
 
+-- the specimen's entries of its last three slots, and its record with this head
+abbrev own : List Held
+own = held .wrap 2 (called 77 5) ∷ held .wrap 3 (MakerDefined 0 (record { start = 95; len = 13 })) ∷ held .wrap 4 (MakerDefined 0 (record { start = 113; len = 13 })) ∷ []
+
+abbrev head : ℕ → Week → VideoInput → ImageSize → Kind → Head
+head revision week input size kind = record { revision = revision; week = week; input = input; size = size; kind = kind }
+
+abbrev shape : ℕ → ℕ → ImageSize
+shape w h = Image.Ratio (record { width = w; height = h })
+
+abbrev analog : VideoInput
+analog = Analog 1 false (record { serrated = true; green = true; composite = false; separate = true })
+
+-- a head that no block has
+abbrev badHead : ℕ → Week → VideoInput → ImageSize → Kind → Case
+badHead revision week input size kind = refusal (headed (head revision week input size kind) own) specimen
+
+-- it is written so
+abbrev writing : Head → List Held → List ℕ → Case
+writing h ds block = record { given = headed h ds; lent = specimen; before = out 128; number = 0; after = block }
+
+-- one range in a slot
+abbrev ranged : ℕ → Limits → Held
+ranged slot l = held .wrap slot (Range l None)
+
 unfoldable pub cases : List Case
 cases =
     -- the specimen's record
@@ -195,6 +254,37 @@ cases =
     -- 1:1 at revision 3, before the slots, and in one
     ∷ refusal (panelOf 3 (first 40000000 40) (heldPair .wrap 0 (mode 1280 1 1 60) ∷ []) []) []
     ∷ refusal (panelOf 3 (first 40000000 40) (heldPair .wrap 2 (mode 1920 1 1 60) ∷ []) []) []
+    -- revision 4: a model year, 14 bits and interface 5, a ratio across; a depth that is reserved, and 100:100 across; an analog input, and a ratio down
+    ∷ writing (head 4 ModelYear (Interface (Depth.Bits 14) 5) (shape 178 100) (Encodings true false)) own (headBlock 0xff 4 0xd5 0x4f 0x00 0x5c)
+    ∷ writing (head 4 (Made 254) (Interface Depth.Reserved 15) (shape 100 100) (Encodings true false)) own (headBlock 0xfe 4 0xff 0x01 0x00 0x81)
+    ∷ writing (head 4 (Made 54) analog (shape 100 178) (Typed RGBColor)) own (headBlock 0x36 4 0x2d 0x00 0x4f 0xcd)
+    -- revision 3: week 255
+    ∷ writing (head 3 (Made 255) (Digital true) (Image.Some (record { width = 320; height = 180 })) (Typed RGBColor)) own (headBlock 0xff 3 0x81 0x20 0x12 0xce)
+    -- the lowest code of the offsets: none up to 255; to the upper end alone, as from 255 to 300; to both from 256 on
+    ∷ writing (new 4) (ranged 2 (rates 255 255 255 255) ∷ ranged 3 (rates 255 300 255 510) ∷ ranged 4 (rates 256 255 256 510) ∷ [])
+    (limitsBlock 4 (fdSlot 0x00 255 255 255 255) (fdSlot 0x0a 255 45 255 255) (fdSlot 0x0f 1 0 1 255) 0x5e)
+    -- a model year, an interface and a ratio at revision 3, each alone
+    ∷ badHead 3 ModelYear (Digital true) Image.None (Typed RGBColor)
+    ∷ badHead 3 (Made 10) (Interface (Depth.Bits 8) 5) Image.None (Typed RGBColor)
+    ∷ badHead 3 (Made 10) (Digital true) (shape 178 100) (Typed RGBColor)
+    -- week 255 and an input of revision 3 at revision 4
+    ∷ badHead 4 (Made 255) (Interface (Depth.Bits 8) 5) Image.None (Encodings true false)
+    ∷ badHead 4 (Made 10) (Digital true) Image.None (Typed RGBColor)
+    -- a type beside an interface, encodings beside an analog input
+    ∷ badHead 4 (Made 10) (Interface (Depth.Bits 8) 5) Image.None (Typed RGBColor)
+    ∷ badHead 4 (Made 10) analog Image.None (Encodings true false)
+    -- 7 and 18 bits, interface 16, ratios of 99:100, 178:99 and 355:100
+    ∷ badHead 4 (Made 10) (Interface (Depth.Bits 7) 5) Image.None (Encodings true false)
+    ∷ badHead 4 (Made 10) (Interface (Depth.Bits 18) 5) Image.None (Encodings true false)
+    ∷ badHead 4 (Made 10) (Interface (Depth.Bits 8) 16) Image.None (Encodings true false)
+    ∷ badHead 4 (Made 10) (Interface (Depth.Bits 8) 5) (shape 99 100) (Encodings true false)
+    ∷ badHead 4 (Made 10) (Interface (Depth.Bits 8) 5) (shape 178 99) (Encodings true false)
+    ∷ badHead 4 (Made 10) (Interface (Depth.Bits 8) 5) (shape 355 100) (Encodings true false)
+    -- 256 Hz at revision 3; 511 Hz, 511 kHz, and 256 with 254 above it, at revision 4
+    ∷ refusal (headed (old 3 (Digital true)) (ranged 2 (rates 50 256 30 80) ∷ [])) []
+    ∷ refusal (headed (new 4) (ranged 2 (rates 50 511 30 80) ∷ [])) []
+    ∷ refusal (headed (new 4) (ranged 2 (rates 50 75 30 511) ∷ [])) []
+    ∷ refusal (headed (new 4) (ranged 2 (rates 256 254 30 80) ∷ [])) []
     ∷ []
 
 -- ---- how a refusal is computed: from what is read of the canonical block
@@ -243,6 +333,40 @@ abbrev number : List (ℕ × Words) → ℕ
 number [] = 0
 number (d ∷ ds) = d .0
 
+-- the upper ends of the first range, and its lower ones: one number
+abbrev ends : List (ℕ × Words) → ℕ
+ends [] = 0
+ends ((n, serial t) ∷ ds) = 0
+ends ((n, text t) ∷ ds) = 0
+ends ((n, range l s) ∷ ds) = l .vmin + l .vmax + l .hmin + l .hmax
+ends ((n, name t) ∷ ds) = 0
+ends ((n, undefined tag t) ∷ ds) = 0
+ends ((n, makerDefined tag t) ∷ ds) = 0
+
+-- a number for each week, input, size and kind
+abbrev weekNumber : Week → ℕ
+weekNumber (Made w) = w
+weekNumber ModelYear = 256
+
+abbrev depthNumber : Depth → ℕ
+depthNumber Depth.Undefined = 0
+depthNumber (Depth.Bits n) = n
+depthNumber Depth.Reserved = 1
+
+abbrev inputNumber : VideoInput → ℕ
+inputNumber (Analog level setup sync) = 1
+inputNumber (Digital dfp) = 2
+inputNumber (Interface d code) = 3 + depthNumber d + 256 * code
+
+abbrev sizeNumber : ImageSize → ℕ
+sizeNumber Image.None = 0
+sizeNumber (Image.Some z) = 1
+sizeNumber (Image.Ratio r) = r .width + 65536 * r .height
+
+abbrev kindNumber : Kind → ℕ
+kindNumber (Typed t) = 0
+kindNumber (Encodings a b) = 1
+
 -- bytes, by a test of each
 bytes-by : (s : List ℕ) → every (λ b. ltb b 256) s ≡ true → Bytes s
 bytes-by [] h = λ i. omega arith
@@ -259,7 +383,7 @@ _also_ : {P Q : Type 0} → P → Q → P × Q
 p also q = (p, q)
 
 pub all-written : All (λ c. Written (c .given) (c .lent) (c .before) (c .number) (c .after)) cases
-unfolding cases careless careful panelOf specimen ratioBlock seen body frontBytes slotBytes timingBytes filled productIn colorsIn inputOf imageOf gammaOf featuresOf flagsOf standardOf recordOf judged beforeSlots said timingIn acrossOf downOf backPorch tagOf pairOf closingRefusal pointAt pointOf pointBytes
+unfolding cases careless careful panelOf headed specimen ratioBlock headBlock limitsBlock seen body frontBytes slotBytes timingBytes filled productIn colorsIn inputOf imageOf gammaOf featuresOf flagsOf standardOf recordOf judged beforeSlots said timingIn acrossOf downOf backPorch tagOf pairOf closingRefusal rangeRefusal rangeIn limitsOf secondaryOf pointAt pointOf pointBytes
 all-written =
     written refl (record { bytes = bytes-by specimen refl; accepted = refl; inside = (omega arith, (omega arith, (omega arith, tt))); same = refl }) refl refl
     also written refl (record { bytes = bytes-by careful refl; accepted = refl; inside = (omega arith, tt); same = refl }) refl refl
@@ -280,4 +404,26 @@ all-written =
     also no-block refl (unlike _ _ (λ s. length (s .standard)) refl) refl refl
     also no-block refl (unlike _ _ (λ s. ratio (s .standard)) refl) refl refl
     also no-block refl (unlike _ _ (λ s. ratio (s .standard)) refl) refl refl
+    also written refl (record { bytes = bytes-by (headBlock 0xff 4 0xd5 0x4f 0x00 0x5c) refl; accepted = refl; inside = (omega arith, (omega arith, (omega arith, tt))); same = refl }) refl refl
+    also written refl (record { bytes = bytes-by (headBlock 0xfe 4 0xff 0x01 0x00 0x81) refl; accepted = refl; inside = (omega arith, (omega arith, (omega arith, tt))); same = refl }) refl refl
+    also written refl (record { bytes = bytes-by (headBlock 0x36 4 0x2d 0x00 0x4f 0xcd) refl; accepted = refl; inside = (omega arith, (omega arith, (omega arith, tt))); same = refl }) refl refl
+    also written refl (record { bytes = bytes-by (headBlock 0xff 3 0x81 0x20 0x12 0xce) refl; accepted = refl; inside = (omega arith, (omega arith, (omega arith, tt))); same = refl }) refl refl
+    also written refl (record { bytes = bytes-by (limitsBlock 4 (fdSlot 0x00 255 255 255 255) (fdSlot 0x0a 255 45 255 255) (fdSlot 0x0f 1 0 1 255) 0x5e) refl; accepted = refl; inside = (tt, (tt, (tt, tt))); same = refl }) refl refl
+    also no-block refl (unlike _ _ (λ s. weekNumber (s .front .product .week)) refl) refl refl
+    also no-block refl (unlike _ _ (λ s. inputNumber (s .front .display .input)) refl) refl refl
+    also no-block refl (unlike _ _ (λ s. sizeNumber (s .front .display .size)) refl) refl refl
+    also no-block refl (unlike _ _ (λ s. weekNumber (s .front .product .week)) refl) refl refl
+    also no-block refl (unlike _ _ (λ s. inputNumber (s .front .display .input)) refl) refl refl
+    also no-block refl (unlike _ _ (λ s. kindNumber (s .front .display .features .kind)) refl) refl refl
+    also no-block refl (unlike _ _ (λ s. kindNumber (s .front .display .features .kind)) refl) refl refl
+    also no-block refl (unlike _ _ (λ s. inputNumber (s .front .display .input)) refl) refl refl
+    also no-block refl (unlike _ _ (λ s. inputNumber (s .front .display .input)) refl) refl refl
+    also no-block refl (unlike _ _ (λ s. inputNumber (s .front .display .input)) refl) refl refl
+    also no-block refl (unlike _ _ (λ s. sizeNumber (s .front .display .size)) refl) refl refl
+    also no-block refl (unlike _ _ (λ s. sizeNumber (s .front .display .size)) refl) refl refl
+    also no-block refl (unlike _ _ (λ s. sizeNumber (s .front .display .size)) refl) refl refl
+    also no-block refl (unlike _ _ (λ s. ends (s .descriptors)) refl) refl refl
+    also no-block refl (unlike _ _ (λ s. ends (s .descriptors)) refl) refl refl
+    also no-block refl (unlike _ _ (λ s. ends (s .descriptors)) refl) refl refl
+    also no-block refl (unlike _ _ (λ s. ends (s .descriptors)) refl) refl refl
     also tt

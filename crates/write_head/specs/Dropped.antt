@@ -35,6 +35,11 @@ module _ (f : Front) where
   unfolding frontBytes
   no-size e = rw e (omega arith)
 
+  -- a ratio of 100:100 is a width
+  pub even-ratio : f .display .size ≡ Image.Ratio (record { width = 100; height = 100 }) → (frontBytes f ! 21 ≡ 1) × (frontBytes f ! 22 ≡ 0)
+  unfolding frontBytes
+  even-ratio e = rw e (omega arith)
+
   -- digits 0 to 6 of the last byte
   pub behind-flags : frontBytes f ! 37 % 128 ≡ 0
   unfolding frontBytes

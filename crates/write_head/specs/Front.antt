@@ -3,19 +3,21 @@ use Prim.Native.Nat.{ℕ, _+_, _*_, _/_}
 use mathlib.Core.Path.{_≡_}
 use mathlib.Core.Bool.{Bool, true}
 use mathlib.Core.List.{List, [], _∷_}
-use lib.Dec.{eqb, leb}
+use lib.Dec.{eqb}
 use Rattle.bits.specs.Bytes.{_!_}
 use Rattle.shared_record.specs.declared.Version.{Version}
 use Rattle.standard_record.specs.declared.Product.{Product}
 use Rattle.standard_record.specs.declared.Display.{Display}
 use Rattle.standard_record.specs.declared.Chromaticities.{Chromaticities}
 use Rattle.standard_parts.specs.Timings.{flagsOf}
+use Rattle.standard_parts.specs.declared.Structure.{Structure}
 use Rattle.standard_head.specs.Head.{productIn, versionIn, displayIn, colorsIn}
 use Rattle.standard_verdict.specs.Verdict.{isHeader}
 use Rattle.write_leaf.specs.Bytes.{Bytes, digit, low}
 use Rattle.write_leaf.specs.Leaf.{Writes}
 use Rattle.write_parts.specs.Point.{placeLow, gammaByte}
-use Rattle.write_head.specs.Head.{makerBytes, inputByte, imageBytes, featuresByte}
+use Rattle.write_head.specs.Head.{makerBytes, weekByte, inputByte, imageBytes, featuresByte}
+use Rattle.write_head.specs.Tests.{weekFits, between}
 use Rattle.write_head.specs.Flags.{flagBytes}
 use Rattle.write_head.specs.declared.NumberBytes.{NumberBytes}
 use Rattle.write_head.specs.declared.ColorBytes.{ColorBytes}
@@ -37,7 +39,7 @@ abbrev pub numberBytes : Product → List ℕ → List ℕ
 numberBytes p rest =
     low (p .code) ∷ low (p .code / 256)
     ∷ low (p .serial) ∷ low (p .serial / 256) ∷ low (p .serial / 65536) ∷ low (p .serial / 16777216)
-    ∷ p .week ∷ low (p .year + 58) ∷ rest
+    ∷ weekByte (p .week) ∷ low (p .year + 58) ∷ rest
 
 abbrev pub productBytes : Product → List ℕ → List ℕ
 productBytes p rest = makerBytes (p .maker) .0 ∷ makerBytes (p .maker) .1 ∷ numberBytes p rest
@@ -78,10 +80,13 @@ WritesFront = Writes Bytes ReadsFront frontBytes
 -- ---- what the functions of the parts ensure: the test, and the bytes before any others
 
 abbrev pub yearFits : ℕ → Bool
-yearFits y = eqb (digit (leb 1990 y) + digit (leb y 2245)) 2
+yearFits = between 1990 2245
 
-pub record MakesNumbers (p : Product) (r : NumberBytes) : Type 0 where
-  pub fits : r .fits ≡ yearFits (p .year)
+abbrev pub numbersFit : Structure → Product → Bool
+numbersFit σ p = eqb (digit (yearFits (p .year)) + digit (weekFits σ (p .week))) 2
+
+pub record MakesNumbers (σ : Structure) (p : Product) (r : NumberBytes) : Type 0 where
+  pub fits : r .fits ≡ numbersFit σ p
   pub bytes : (rest : List ℕ) → r .b10 ∷ r .b11 ∷ r .b12 ∷ r .b13 ∷ r .b14 ∷ r .b15 ∷ r .b16 ∷ r .b17 ∷ rest ≡ numberBytes p rest
 
 -- 0 exactly where each is below 1024
@@ -95,6 +100,6 @@ pub record MakesColors (c : Chromaticities) (r : ColorBytes) : Type 0 where
   pub bytes : (rest : List ℕ)
       → r .b25 ∷ r .b26 ∷ r .b27 ∷ r .b28 ∷ r .b29 ∷ r .b30 ∷ r .b31 ∷ r .b32 ∷ r .b33 ∷ r .b34 ∷ rest ≡ colorBytes c rest
 
--- all eight parts fit
-abbrev pub allFit : Bool → Bool → Bool → Bool → Bool → Bool → Bool → Bool → Bool
-allFit a b c d e f g h = eqb (digit a + digit b + digit c + digit d + digit e + digit f + digit g + digit h) 8
+-- all nine parts fit
+abbrev pub allFit : Bool → Bool → Bool → Bool → Bool → Bool → Bool → Bool → Bool → Bool
+allFit a b c d e f g h i = eqb (digit a + digit b + digit c + digit d + digit e + digit f + digit g + digit h + digit i) 9

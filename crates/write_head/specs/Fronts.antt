@@ -4,25 +4,27 @@ use mathlib.Core.Path.{_≡_, refl, ap}
 use mathlib.Core.Bool.{Bool, true}
 use mathlib.Core.List.{List, [], _∷_}
 use native.Mathlib.Omega.{arith}
-use lib.Dec.{eqb, leb}
-use borrow.Author.Tests.{eqb-true, le-leb, leb-true}
+use lib.Dec.{eqb}
+use borrow.Author.Tests.{eqb-true, le-leb}
 use Rattle.bits.specs.Bytes.{_!_}
 use Rattle.bits.specs.Fields.{digits}
 use Rattle.shared_record.specs.declared.Version.{Version}
 use Rattle.standard_record.specs.declared.Product.{Product}
 use Rattle.standard_record.specs.declared.Display.{Display}
 use Rattle.standard_record.specs.declared.Chromaticity.{Chromaticity}
-use Rattle.standard_parts.specs.Head.{featuresOf}
+use Rattle.standard_parts.specs.Structure.{structureOf}
 use Rattle.standard_parts.specs.Color.{chromaticityOf}
-use Rattle.standard_head.specs.Head.{productIn, colorsIn}
+use Rattle.standard_parts.specs.declared.Structure.{Structure}
+use Rattle.standard_head.specs.Head.{structureIn, productIn, colorsIn}
 use Rattle.write_leaf.specs.Bytes.{Bytes, digit, low}
 use Rattle.write_leaf.specs.Digits.{fields, field-6, field-4, field-2, field-0, digit-under, digit-true, two-hold}
 use Rattle.write_leaf.specs.Leaf.{Two}
 use Rattle.write_parts.specs.Point.{placeLow, WritesGamma}
-use Rattle.write_head.specs.Head.{WritesMaker, WritesInput, WritesImage, featuresByte}
+use Rattle.write_head.specs.Head.{WritesMaker, WritesInput, WritesImage, WritesFeatures}
 use Rattle.write_head.specs.Flags.{Three, WritesFlags}
-use Rattle.write_head.specs.Front.{Front, headerBytes, numberBytes, colorBytes, frontBytes, ReadsFront, WritesFront, yearFits, colorExcess, allFit}
-use Rattle.write_head.specs.Heads.{word-whole}
+use Rattle.write_head.specs.Front.{Front, headerBytes, numberBytes, colorBytes, frontBytes, ReadsFront, WritesFront, yearFits, numbersFit, colorExcess, allFit}
+use Rattle.write_head.specs.Tests.{weekFits}
+use Rattle.write_head.specs.Heads.{word-whole, within, writes-week}
 
 -- ---- product numbers
 
@@ -33,11 +35,7 @@ long-whole n h =
     rw (same, upper) (omega arith)
 
 year-back : (y : ℕ) → yearFits y ≡ true → low (y + 58) + 1990 ≡ y
-year-back y h =
-    let t = two-hold (leb 1990 y) (leb y 2245) h in
-    let least = leb-true 1990 y (t .0) in
-    let most = leb-true y 2245 (t .1) in
-    omega arith
+year-back y h = omega (arith, within 1990 2245 y h)
 
 year-read : (b : ℕ) → b < 256 → yearFits (b + 1990) ≡ true
 year-read b h = rw (le-leb 1990 (b + 1990) (omega arith), le-leb (b + 1990) 2245 (omega arith))
@@ -98,18 +96,19 @@ colors-read s b =
 
 -- ---- the tests
 
-record Passed (maker year version input image gamma color flags : Bool) : Type 0 where
+record Passed (maker numbers version input image gamma features color flags : Bool) : Type 0 where
   maker-fits : maker ≡ true
-  year-fits : year ≡ true
+  numbers-fit : numbers ≡ true
   version-fits : version ≡ true
   input-fits : input ≡ true
   image-fits : image ≡ true
   gamma-fits : gamma ≡ true
+  features-fit : features ≡ true
   color-fits : color ≡ true
   flags-fit : flags ≡ true
 
-passed : (a b c d e f g h : Bool) → allFit a b c d e f g h ≡ true → Passed a b c d e f g h
-passed a b c d e f g h t =
+passed : (a b c d e f g h i : Bool) → allFit a b c d e f g h i ≡ true → Passed a b c d e f g h i
+passed a b c d e f g h i t =
     let na = digit-under a in
     let nb = digit-under b in
     let nc = digit-under c in
@@ -118,35 +117,40 @@ passed a b c d e f g h t =
     let nf = digit-under f in
     let ng = digit-under g in
     let nh = digit-under h in
-    let all = eqb-true (digit a + digit b + digit c + digit d + digit e + digit f + digit g + digit h) 8 t in
+    let ni = digit-under i in
+    let all = eqb-true (digit a + digit b + digit c + digit d + digit e + digit f + digit g + digit h + digit i) 9 t in
     record {
       maker-fits = digit-true a (omega arith);
-      year-fits = digit-true b (omega arith);
+      numbers-fit = digit-true b (omega arith);
       version-fits = digit-true c (omega arith);
       input-fits = digit-true d (omega arith);
       image-fits = digit-true e (omega arith);
       gamma-fits = digit-true f (omega arith);
-      color-fits = digit-true g (omega arith);
-      flags-fit = digit-true h (omega arith);
+      features-fit = digit-true g (omega arith);
+      color-fits = digit-true h (omega arith);
+      flags-fit = digit-true i (omega arith);
     }
 
 -- ---- the front
 
 -- the parts of f are written, as far as they have a function of their own
 pub record Parts (f : Front) (maker-fits : Bool) (m : Two) (input-fits : Bool) (v : ℕ) (image-fits : Bool) (z : Two)
-    (gamma-fits : Bool) (g : ℕ) (t : ℕ) (flags-fit : Bool) (l : Three) : Type 0 where
+    (gamma-fits : Bool) (g : ℕ) (features-fit : Bool) (t : ℕ) (flags-fit : Bool) (l : Three) : Type 0 where
   pub code : f .product .code < 65536
   pub serial : f .product .serial < 4294967296
   pub maker : WritesMaker (f .product .maker) maker-fits m
-  pub input : WritesInput (f .display .input) input-fits v
-  pub image : WritesImage (f .display .size) image-fits z
+  pub input : WritesInput (structureOf (f .version .revision)) (f .display .input) input-fits v
+  pub image : WritesImage (structureOf (f .version .revision)) (f .display .size) image-fits z
   pub gamma : WritesGamma (f .display .gamma) gamma-fits g
-  pub features : (t ≡ featuresByte (f .display .features)) × (featuresOf t ≡ f .display .features)
+  pub features : WritesFeatures (f .display .input) (f .display .features) features-fit t
   pub flags : WritesFlags (f .established) flags-fit l
 
-module _ {f : Front} {mf vf zf gf lf : Bool} {m z : Two} {v g t : ℕ} {l : Three} (p : Parts f mf m vf v zf z gf g t lf l) where
+module _ {f : Front} {mf vf zf gf tf lf : Bool} {m z : Two} {v g t : ℕ} {l : Three} (p : Parts f mf m vf v zf z gf g tf t lf l) where
+  abbrev σ : Structure
+  σ = structureOf (f .version .revision)
+
   abbrev frontFits : Bool
-  frontFits = allFit mf (yearFits (f .product .year)) (eqb (f .version .version) 1) vf zf gf (eqb (colorExcess (f .basic)) 0) lf
+  frontFits = allFit mf (numbersFit σ (f .product)) (eqb (f .version .version) 1) vf zf gf tf (eqb (colorExcess (f .basic)) 0) lf
 
   abbrev bytes : List ℕ
   bytes =
@@ -157,12 +161,13 @@ module _ {f : Front} {mf vf zf gf lf : Bool} {m z : Two} {v g t : ℕ} {l : Thre
 
   made : bytes ≡ frontBytes f
   unfolding frontBytes
-  made = rw (p .maker .made, p .input .made, p .image .made, p .gamma .made, p .features .0, p .flags .made)
+  made = rw (p .maker .made, p .input .made, p .image .made, p .gamma .made, p .features .made, p .flags .made)
 
   sound : frontFits ≡ true → ReadsFront bytes f
   unfolding productIn colorsIn
   sound e =
-      let a = passed mf (yearFits (f .product .year)) (eqb (f .version .version) 1) vf zf gf (eqb (colorExcess (f .basic)) 0) lf e in
+      let a = passed mf (numbersFit σ (f .product)) (eqb (f .version .version) 1) vf zf gf tf (eqb (colorExcess (f .basic)) 0) lf e in
+      let n = two-hold (yearFits (f .product .year)) (weekFits σ (f .product .week)) (a .numbers-fit) in
       let c = f .basic in
       let none = eqb-true (colorExcess c) 0 (a .color-fits) in
       record {
@@ -172,10 +177,11 @@ module _ {f : Front} {mf vf zf gf lf : Bool} {m z : Two} {v g t : ℕ} {l : Thre
           p .maker .sound (a .maker-fits),
           word-whole (f .product .code) (p .code),
           long-whole (f .product .serial) (p .serial),
-          year-back (f .product .year) (a .year-fits),
+          writes-week σ (f .product .week) .sound (n .1),
+          year-back (f .product .year) (n .0),
         );
         version = refl;
-        display = rw (p .input .sound (a .input-fits), p .image .sound (a .image-fits), p .gamma .sound (a .gamma-fits), p .features .1);
+        display = rw (p .input .sound (a .input-fits), p .image .sound (a .image-fits), p .gamma .sound (a .gamma-fits), p .features .sound (a .features-fit));
         basic = rw (
           upper-place (c .red) (c .green) (omega arith) (omega arith),
           lower-place (c .red) (c .green) (omega arith) (omega arith),
@@ -188,15 +194,20 @@ module _ {f : Front} {mf vf zf gf lf : Bool} {m z : Two} {v g t : ℕ} {l : Thre
   complete : (s : List ℕ) → Bytes s → ReadsFront s f → frontFits ≡ true
   unfolding productIn
   complete s b r =
+      let same : structureIn s ≡ σ = ap (λ (x : Version). structureOf (x .revision)) (r .version) in
+      let week = rw same at (ap (λ (x : Product). x .week) (r .product)) in
+      let input = ap (λ (x : Display). x .input) (r .display) in
       rw (
         p .maker .complete (s ! 8, s ! 9) (b 8, b 9) (ap (λ (x : Product). x .maker) (r .product)),
+        writes-week σ (f .product .week) .complete (s ! 16) (b 16) week,
         ← ap (λ (x : Product). x .year) (r .product),
         year-read (s ! 17) (b 17),
         ← ap (λ (x : Version). x .version) (r .version),
         r .one,
-        p .input .complete (s ! 20) (b 20) (ap (λ (x : Display). x .input) (r .display)),
-        p .image .complete (s ! 21, s ! 22) (b 21, b 22) (ap (λ (x : Display). x .size) (r .display)),
+        p .input .complete (s ! 20) (b 20) (rw same at input),
+        p .image .complete (s ! 21, s ! 22) (b 21, b 22) (rw same at (ap (λ (x : Display). x .size) (r .display))),
         p .gamma .complete (s ! 23) (b 23) (ap (λ (x : Display). x .gamma) (r .display)),
+        p .features .complete (s ! 24) (b 24) (rw input at (ap (λ (x : Display). x .features) (r .display))),
         ← r .basic,
         colors-read s b,
         p .flags .complete (s ! 35, s ! 36, s ! 37) (b 35, b 36, b 37) (r .established),

@@ -1,23 +1,29 @@
 // The first 38 bytes of a block: header, product, version, display, colours and the established flags.
 use shared_record::EstablishedTimings;
 use shared_record::Version;
+use standard_parts::Structure;
 use standard_record::Chromaticities;
 use standard_record::Chromaticity;
+use standard_record::Depth;
 use standard_record::Display;
 use standard_record::DisplayType;
 use standard_record::Features;
 use standard_record::ImageSize;
+use standard_record::Kind;
 use standard_record::Maker;
 use standard_record::Product;
+use standard_record::Ratio;
 use standard_record::VideoInput;
+use standard_record::Week;
 use write_leaf::OneByte;
 use write_leaf::TwoBytes;
 ghost use mathlib.Core.Path.{_≡_};
 ghost use lib.ListN.{length, take};
 ghost use Prim.Native.Nat.{_≤_};
-ghost use Rattle.standard_parts.specs.Head.{featuresOf};
 ghost use Rattle.write_parts.specs.Point.{placeLow};
-ghost use Rattle.write_head.specs.Head.{WritesMaker, WritesInput, WritesImage, typeCode, featuresByte};
+ghost use Rattle.standard_record.specs.declared.ImageSize.the-variants as Image;
+ghost use Rattle.write_head.specs.Head.{WritesMaker, weekByte, depthCode, WritesInput, imageBytes, WritesImage, typeCode, kindCode, WritesFeatures};
+ghost use Rattle.write_head.specs.Tests.{weekFits, between, depthFits, ratioFits, imageFits, kindFits};
 ghost use Rattle.write_head.specs.Flags.{total, sameList, WritesFlags};
 ghost use Rattle.write_head.specs.Front.{MakesNumbers, colorExcess, MakesColors, allFit, WritesFront};
 
@@ -81,31 +87,86 @@ fn maker_bytes(m: Maker) -> TwoBytes
     }
 }
 
-fn number_bytes(p: Product) -> NumberBytes
-    ensures { λ r. ⌜ MakesNumbers p r ⌝ }
+fn between(low: u16, high: u16, n: u16) -> bool
+    ensures { λ r. ⌜ r ≡ between low high n ⌝ }
 {
+    write_leaf::digit(low <= n) + write_leaf::digit(n <= high) == 2
+}
+
+fn week_byte(structure: Structure, w: Week) -> OneByte
+    ensures { λ r. ⌜ (r .fits ≡ weekFits structure w) × (r .byte ≡ weekByte w) ⌝ }
+{
+    let new = standard_parts::since_4(structure);
+    match w {
+        Week::Made(week) => OneByte {
+            fits: !write_leaf::both(new, week == 0xff),
+            byte: week,
+        },
+        Week::ModelYear => OneByte {
+            fits: new,
+            byte: 0xff,
+        },
+    }
+}
+
+fn number_bytes(structure: Structure, p: Product) -> NumberBytes
+    ensures { λ r. ⌜ MakesNumbers structure p r ⌝ }
+{
+    let week = p.week;
+    let week = week_byte(structure, week);
     NumberBytes {
-        fits: write_leaf::digit(1990 <= p.year) + write_leaf::digit(p.year <= 2245) == 2,
+        fits: write_leaf::digit(between(1990, 2245, p.year)) + write_leaf::digit(week.fits) == 2,
         b10: (p.code % 256) as u8,
         b11: (p.code / 256 % 256) as u8,
         b12: (p.serial % 256) as u8,
         b13: (p.serial / 256 % 256) as u8,
         b14: (p.serial / 65536 % 256) as u8,
         b15: (p.serial / 16777216 % 256) as u8,
-        b16: p.week,
+        b16: week.byte,
         b17: ((p.year as u32 + 58) % 256) as u8,
     }
 }
 
 // ---- display
 
-fn input_byte(v: VideoInput) -> OneByte
-    ensures { λ r. ⌜ WritesInput v (r .fits) (r .byte) ⌝ }
+fn depth_code(d: Depth) -> u8
+    ensures { λ r. ⌜ (r ≡ depthCode d) × (r ≤ 7) ⌝ }
 {
+    match d {
+        Depth::Undefined => 0,
+        Depth::Bits(n) => (n / 2 + 6) % 8,
+        Depth::Reserved => 7,
+    }
+}
+
+// An even number of 6 to 16, or none.
+fn depth_fits(d: Depth) -> bool
+    ensures { λ r. ⌜ r ≡ depthFits d ⌝ }
+{
+    match d {
+        Depth::Undefined => true,
+        Depth::Bits(n) => {
+            write_leaf::digit(between(6, 16, n as u16)) + write_leaf::digit(n % 2 == 0) == 2
+        }
+        Depth::Reserved => true,
+    }
+}
+
+fn input_byte(structure: Structure, v: VideoInput) -> OneByte
+    ensures { λ r. ⌜ WritesInput structure v (r .fits) (r .byte) ⌝ }
+{
+    let new = standard_parts::since_4(structure);
     match v {
         VideoInput::Digital { dfp } => OneByte {
-            fits: true,
+            fits: !new,
             byte: 128 + write_leaf::digit(dfp),
+        },
+        VideoInput::Interface { depth, code } => OneByte {
+            fits: write_leaf::digit(new)
+                + write_leaf::digit(depth_fits(depth))
+                + write_leaf::digit(code <= 15)
+                == 3,
+            byte: 128 + depth_code(depth) * 16 + code % 16,
         },
         VideoInput::Analog { level, setup, sync } => OneByte {
             fits: level <= 3,
@@ -119,9 +180,41 @@ fn input_byte(v: VideoInput) -> OneByte
     }
 }
 
-// Tens of 10 to 2550 both ways, or none.
-fn image_bytes(z: ImageSize) -> TwoBytes
-    ensures { λ r. ⌜ WritesImage z (r .fits) (r .first, r .second) ⌝ }
+fn ratio_fits(r: Ratio) -> bool
+    ensures { λ z. ⌜ z ≡ ratioFits r ⌝ }
+{
+    if r.height == 100 {
+        between(100, 354, r.width)
+    } else {
+        write_leaf::digit(r.width == 100) + write_leaf::digit(between(100, 354, r.height)) == 2
+    }
+}
+
+// The number that is not 100, less 99, in the place of its axis.
+fn ratio_bytes(structure: Structure, r: Ratio) -> TwoBytes
+    ensures { λ z. ⌜ (z .fits ≡ imageFits structure (Image.Ratio r)) × ((z .first, z .second) ≡ imageBytes (Image.Ratio r)) ⌝ }
+{
+    let fits = write_leaf::digit(standard_parts::since_4(structure))
+        + write_leaf::digit(ratio_fits(r))
+        == 2;
+    if r.height == 100 {
+        TwoBytes {
+            fits,
+            first: ((r.width as u32 + 157) % 256) as u8,
+            second: 0,
+        }
+    } else {
+        TwoBytes {
+            fits,
+            first: 0,
+            second: ((r.height as u32 + 157) % 256) as u8,
+        }
+    }
+}
+
+// Tens of 10 to 2550 both ways, a ratio, or none.
+fn image_bytes(structure: Structure, z: ImageSize) -> TwoBytes
+    ensures { λ r. ⌜ WritesImage structure z (r .fits) (r .first, r .second) ⌝ }
 {
     match z {
         ImageSize::None => TwoBytes {
@@ -139,6 +232,7 @@ fn image_bytes(z: ImageSize) -> TwoBytes
             first: (s.width / 10 % 256) as u8,
             second: (s.height / 10 % 256) as u8,
         },
+        ImageSize::Ratio(r) => ratio_bytes(structure, r),
     }
 }
 
@@ -153,18 +247,40 @@ fn type_code(k: DisplayType) -> u8
     }
 }
 
-// Every value has its byte.
-fn features_byte(f: Features) -> u8
-    ensures { λ r. ⌜ (r ≡ featuresByte f) × (featuresOf r ≡ f) ⌝ }
+fn kind_code(k: Kind) -> u8
+    ensures { λ r. ⌜ (r ≡ kindCode k) × (r ≤ 3) ⌝ }
+{
+    match k {
+        Kind::Typed(t) => type_code(t),
+        Kind::Encodings { ycrcb444, ycrcb422 } => {
+            write_leaf::digit(ycrcb444) + 2 * write_leaf::digit(ycrcb422)
+        }
+    }
+}
+
+fn kind_fits(encoded: bool, k: Kind) -> bool
+    ensures { λ r. ⌜ r ≡ kindFits encoded k ⌝ }
+{
+    match k {
+        Kind::Typed(_) => !encoded,
+        Kind::Encodings { .. } => encoded,
+    }
+}
+
+fn features_byte(input: VideoInput, f: Features) -> OneByte
+    ensures { λ r. ⌜ WritesFeatures input f (r .fits) (r .byte) ⌝ }
 {
     let kind = f.kind;
-    write_leaf::digit(f.standby) * 128
-        + write_leaf::digit(f.suspend) * 64
-        + write_leaf::digit(f.lowpower) * 32
-        + type_code(kind) * 8
-        + write_leaf::digit(f.srgb) * 4
-        + write_leaf::digit(f.preferred) * 2
-        + write_leaf::digit(f.gtf)
+    OneByte {
+        fits: kind_fits(standard_parts::tells_interface(input), kind),
+        byte: write_leaf::digit(f.standby) * 128
+            + write_leaf::digit(f.suspend) * 64
+            + write_leaf::digit(f.lowpower) * 32
+            + kind_code(kind) * 8
+            + write_leaf::digit(f.srgb) * 4
+            + write_leaf::digit(f.preferred) * 2
+            + write_leaf::digit(f.gtf),
+    }
 }
 
 // ---- colours
@@ -269,8 +385,8 @@ fn flag_bytes(e: EstablishedTimings) -> FlagBytes
 // ---- the front
 
 // How many fit, in the place of a chain of tests.
-fn all_fit(a: bool, b: bool, c: bool, d: bool, e: bool, f: bool, g: bool, h: bool) -> bool
-    ensures { λ r. ⌜ r ≡ allFit a b c d e f g h ⌝ }
+fn all_fit(a: bool, b: bool, c: bool, d: bool, e: bool, f: bool, g: bool, h: bool, i: bool) -> bool
+    ensures { λ r. ⌜ r ≡ allFit a b c d e f g h i ⌝ }
 {
     write_leaf::digit(a)
         + write_leaf::digit(b)
@@ -280,7 +396,8 @@ fn all_fit(a: bool, b: bool, c: bool, d: bool, e: bool, f: bool, g: bool, h: boo
         + write_leaf::digit(f)
         + write_leaf::digit(g)
         + write_leaf::digit(h)
-        == 8
+        + write_leaf::digit(i)
+        == 9
 }
 
 // The first 38 bytes of a block that shows these.
@@ -293,15 +410,16 @@ pub fn front_bytes(
 ) -> FrontBytes
     ensures { λ r. ⌜ WritesFront (record { product = product; version = version; display = display; basic = basic; established = take (established .len) (established .items) }) (r .fits) (r .bytes) ⌝ }
 {
+    let structure = standard_parts::structure_of(version.revision);
     let maker = maker_bytes(product.maker);
-    let n = number_bytes(product);
-    let input = display.input;
-    let input = input_byte(input);
+    let n = number_bytes(structure, product);
+    let video = display.input;
+    let input = input_byte(structure, video);
     let size = display.size;
-    let size = image_bytes(size);
+    let size = image_bytes(structure, size);
     let gamma = display.gamma;
     let gamma = write_parts::gamma_byte(gamma);
-    let features = features_byte(display.features);
+    let features = features_byte(video, display.features);
     let c = color_bytes(basic);
     let flags = flag_bytes(established);
     let fits = all_fit(
@@ -311,6 +429,7 @@ pub fn front_bytes(
         input.fits,
         size.fits,
         gamma.fits,
+        features.fits,
         c.fits,
         flags.fits,
     );
@@ -339,7 +458,7 @@ pub fn front_bytes(
         size.first,
         size.second,
         gamma.byte,
-        features,
+        features.byte,
         c.b25,
         c.b26,
         c.b27,

@@ -9,7 +9,7 @@ use Rattle.bits.specs.Fields.{digits}
 use Rattle.standard_record.specs.declared.StandardTiming.{StandardTiming}
 use Rattle.standard_parts.specs.Timings.{ratioOf, pairOf}
 use Rattle.standard_parts.specs.declared.Structure.{Structure}
-use Rattle.standard_parts.specs.declared.Structure.the-variants.{Below3, From3}
+use Rattle.standard_parts.specs.declared.Structure.the-variants.{Below3, From3, From4}
 use Rattle.standard_parts.specs.declared.Pair.{Pair}
 use Rattle.standard_parts.specs.declared.Pair.the-variants as Pair
 use Rattle.write_leaf.specs.Digits.{four-hold, agrees}
@@ -39,6 +39,7 @@ pair-is (Pair.Listed w) v h = ap Pair.Listed (same-is w v h)
 code-back : (σ : Structure) (c : ℕ) → c < 4 → ratioCode (ratioOf σ c) ≡ c
 code-back Below3 zero h = refl
 code-back From3 zero h = refl
+code-back From4 zero h = refl
 code-back σ (suc zero) h = refl
 code-back σ (suc (suc zero)) h = refl
 code-back σ (suc (suc (suc zero))) h = refl

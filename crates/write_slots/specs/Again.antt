@@ -1,5 +1,5 @@
 -- Laws: a slot of white points or of a descriptor that any bytes are read as, is read from its own bytes.
-use Prim.Native.Nat.{ℕ, zero, suc, _<_}
+use Prim.Native.Nat.{ℕ, zero, suc, _/_, _<_}
 use mathlib.Core.Path.{_≡_, subst}
 use mathlib.Core.Bool.{Bool, true, false}
 use mathlib.Core.List.{List, [], _∷_, _++_}
@@ -10,8 +10,9 @@ use borrow.Author.Tests.{leb-true, ltb-true}
 use Rattle.bits.specs.Bytes.{_!_, part}
 use Rattle.fixed.specs.Fixed.{pad}
 use Rattle.standard_record.specs.declared.WhitePoint.{WhitePoint}
+use Rattle.standard_record.specs.declared.Limits.{Limits}
 use Rattle.standard_record.specs.declared.Descriptor.{Descriptor}
-use Rattle.standard_parts.specs.Descriptors.{limitsOf, secondaryOf}
+use Rattle.standard_parts.specs.Descriptors.{offsetsOf, limitsOf, secondaryOf}
 use Rattle.standard_parts.specs.declared.Structure.{Structure}
 use Rattle.standard_slots.specs.Said.{rangeIn}
 use Rattle.standard_slots.specs.Answers.{ofPoints}
@@ -27,18 +28,21 @@ use Rattle.write_parts.specs.Texts as Texts
 use Rattle.write_parts.specs.Again.{point-again, text-again}
 use Rattle.write_pairs.specs.Pairs.{All}
 use Rattle.write_slots.specs.Words.{Words, serial, text, range, name, undefined, makerDefined, bytesOf, words}
-use Rattle.write_slots.specs.Slot.{tagged, pointsBytes, limitsBytes, secondaryBytes, descriptorBytes, slotBytes}
+use Rattle.write_slots.specs.Slot.{headed, tagged, pointsBytes, offsetsByte, limitsBytes, secondaryBytes, descriptorBytes, slotBytes}
 use Rattle.write_slots.specs.Writes.{ReadsPoints, WritesPoints, ReadsDescriptor, WritesDescriptor}
 use Rattle.write_slots.specs.Runs.{pad-bytes}
 use Rattle.write_slots.specs.Tells.{Tells, tells}
 use Rattle.write_slots.specs.Points.{ReadIn, points-read, writes-none, writes-one, writes-two}
 use Rattle.write_slots.specs.Descriptors.{writes-span, writes-serial, writes-text, writes-name, writes-undefined, writes-maker}
-use Rattle.write_slots.specs.Ranges.{second, writes-range}
+use Rattle.write_slots.specs.Ranges.{code-under, second, writes-range}
 
 -- ---- bytes behind a tag
 
+headed-bytes : (tag b4 : ℕ) (rest : List ℕ) → tag < 256 → b4 < 256 → Bytes rest → Bytes (headed tag b4 rest)
+headed-bytes tag b4 rest h l k = each-before (headed tag b4 []) rest (omega arith) k
+
 tagged-bytes : (tag : ℕ) (rest : List ℕ) → tag < 256 → Bytes rest → Bytes (tagged tag rest)
-tagged-bytes tag rest h k = each-before (tagged tag []) rest (omega arith) k
+tagged-bytes tag rest h k = headed-bytes tag 0 rest h (omega arith) k
 
 -- ---- white points
 
@@ -68,11 +72,10 @@ points-again σ ps t b r = again (points-written σ ps .2) t b r (slot-bytes t b
 
 -- ---- descriptors
 
-module _ (t : List ℕ) (b : Bytes t) where
-  -- of the limits
-  abbrev limits : List ℕ
-  limits = limitsBytes (limitsOf (t ! 5) (t ! 6) (t ! 7) (t ! 8) (t ! 9))
+offsets-are-byte : (l : Limits) → offsetsByte l < 256
+offsets-are-byte l = omega (arith, code-under (l .vmin) (l .vmax), code-under (l .hmin / 1000) (l .hmax / 1000))
 
+module _ (t : List ℕ) (b : Bytes t) where
   -- of a secondary timing, by the two tests of its kind
   abbrev seconds : Bool → Bool → List ℕ
   seconds z y = secondaryBytes (second t (t ! 10) (t ! 12) (t ! 13) (t ! 14) (t ! 15) (t ! 16) (t ! 17) z y)
@@ -82,13 +85,14 @@ module _ (t : List ℕ) (b : Bytes t) where
   second-bytes false true = each-byte (seconds false true) (omega (arith, b 13, b 16, b 17))
   second-bytes false false = cons-bytes (t ! 10) (pad 7 0 (part t 11 7)) (b 10) (pad-bytes 7 (part t 11 7) (part-bytes t 11 7 b))
 
-  range-bytes : (w : Words) → words t (rangeIn t 0) ≡ w → Bytes (descriptorBytes w)
+  range-bytes : (σ : Structure) (w : Words) → words t (rangeIn σ t 0) ≡ w → Bytes (descriptorBytes w)
   unfolding rangeIn secondaryOf
-  range-bytes w e =
-      let tests : Bool × Bool = (eqb (t ! 10) 0, eqb (t ! 10) 2) in
+  range-bytes σ w e =
+      let l = limitsOf (offsetsOf σ (t ! 4)) (t ! 5) (t ! 6) (t ! 7) (t ! 8) (t ! 9) in
+      let second = seconds (eqb (t ! 10) 0) (eqb (t ! 10) 2) in
       subst (λ w. Bytes (descriptorBytes w)) e
-      (tagged-bytes 0xfd (limits ++ seconds (tests .0) (tests .1)) (omega arith)
-      (each-before limits (seconds (tests .0) (tests .1)) (omega (arith, b 5, b 6)) (second-bytes (tests .0) (tests .1))))
+      (headed-bytes 0xfd (offsetsByte l) (limitsBytes l ++ second) (omega arith) (offsets-are-byte l)
+      (each-before (limitsBytes l) second (omega arith) (second-bytes (eqb (t ! 10) 0) (eqb (t ! 10) 2))))
 
   worded-bytes : (tag : ℕ) (u : List ℕ) → tag < 256 → ReadsText (part t 5 13) u → Bytes (tagged tag (textBytes u))
   worded-bytes tag u h r = tagged-bytes tag (textBytes u) h (text-again u (part t 5 13) (part-bytes t 5 13 b) r .bytes)
@@ -96,14 +100,14 @@ module _ (t : List ℕ) (b : Bytes t) where
   run-bytes : (tag : ℕ) (u : List ℕ) → tag < 256 → part t 5 13 ≡ u → Bytes (tagged tag (pad 13 0 u))
   run-bytes tag u h e = tagged-bytes tag (pad 13 0 u) h (pad-bytes 13 u (rw (← e) (part-bytes t 5 13 b)))
 
-  words-bytes : (w : Words) → Tells t w → Bytes (descriptorBytes w)
-  words-bytes (serial u) r = worded-bytes 0xff u (omega arith) r
-  words-bytes (text u) r = worded-bytes 0xfe u (omega arith) r
-  words-bytes (range l s) r = range-bytes (range l s) r
-  words-bytes (name u) r = worded-bytes 0xfc u (omega arith) r
-  words-bytes (undefined tag u) r =
+  words-bytes : (σ : Structure) (w : Words) → Tells σ t w → Bytes (descriptorBytes w)
+  words-bytes σ (serial u) r = worded-bytes 0xff u (omega arith) r
+  words-bytes σ (text u) r = worded-bytes 0xfe u (omega arith) r
+  words-bytes σ (range l s) r = range-bytes σ (range l s) r
+  words-bytes σ (name u) r = worded-bytes 0xfc u (omega arith) r
+  words-bytes σ (undefined tag u) r =
       run-bytes tag u (omega (arith, leb-true tag 0xf9 (two-hold (leb 0x11 tag) (leb tag 0xf9) (r .0) .1))) (r .1)
-  words-bytes (makerDefined tag u) r = run-bytes tag u (omega (arith, ltb-true tag 0x10 (r .0))) (r .1)
+  words-bytes σ (makerDefined tag u) r = run-bytes tag u (omega (arith, ltb-true tag 0x10 (r .0))) (r .1)
 
 module _ (σ : Structure) (lent : List ℕ) where
   descriptor-written : (d : Descriptor) → (f : Bool) × (m : List ℕ) × WritesDescriptor σ lent d f m
@@ -117,4 +121,4 @@ module _ (σ : Structure) (lent : List ℕ) where
 pub descriptor-again : (σ : Structure) (lent : List ℕ) (d : Descriptor) (t : List ℕ) → Bytes t → ReadsDescriptor σ lent t d
     → Again Bytes (ReadsDescriptor σ lent) (λ d. descriptorBytes (words lent d)) d
 descriptor-again σ lent d t b r =
-    again (descriptor-written σ lent d .2) t b r (words-bytes t b (words lent d) (tells t (r .1 .size) b σ (words lent d) (r .1 .shown)))
+    again (descriptor-written σ lent d .2) t b r (words-bytes t b σ (words lent d) (tells t (r .1 .size) b σ (words lent d) (r .1 .shown)))

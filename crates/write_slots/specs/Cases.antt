@@ -29,7 +29,7 @@ pub record Cases (P : Said → Type 0) (σ : Structure) (t : List ℕ) (at : ℕ
   pub name : isPadded (part t 5 13) (textLength (part t 5 13)) ≡ true → P (described (Descriptor.Name (textIn t at)))
   pub text : isPadded (part t 5 13) (textLength (part t 5 13)) ≡ true → P (described (Descriptor.Text (textIn t at)))
   pub serial : isPadded (part t 5 13) (textLength (part t 5 13)) ≡ true → P (described (Descriptor.Serial (textIn t at)))
-  pub range : P (described (rangeIn t at))
+  pub range : P (described (rangeIn σ t at))
   pub raw : tagOf (t ! 3) ≡ Tag.Raw → P (described (rawOf (t ! 3) (record { start = at + 5; len = 13 })))
 
 module _ (P : Said → Type 0) (σ : Structure) (t : List ℕ) (at : ℕ) (e : Cases P σ t at) where
@@ -52,7 +52,7 @@ module _ (P : Said → Type 0) (σ : Structure) (t : List ℕ) (at : ℕ) (e : C
   by-tag Tag.Pairs p = behind (closingRefusal (t ! 17) true) (pairs (pairsIn σ t)) (e .listed)
   by-tag Tag.Points p = behind (closingRefusal (t ! 15) (allSpaces (part t 16 2))) (points (pointsIn t)) (e .pointed)
   by-tag Tag.Name p = worded Descriptor.Name (e .name)
-  by-tag Tag.Range p = behind (rangeRefusal (t ! 10) (t ! 11) (allSpaces (part t 12 6))) (described (rangeIn t at)) (e .range)
+  by-tag Tag.Range p = behind (rangeRefusal (t ! 10) (t ! 11) (allSpaces (part t 12 6))) (described (rangeIn σ t at)) (e .range)
   by-tag Tag.Text p = worded Descriptor.Text (e .text)
   by-tag Tag.Serial p = worded Descriptor.Serial (e .serial)
   by-tag Tag.Raw p = e .raw p

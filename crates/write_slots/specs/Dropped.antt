@@ -12,10 +12,22 @@ use Rattle.write_parts.specs.Point.{pointBytes}
 use Rattle.write_parts.specs.Text.{textBytes}
 use Rattle.write_parts.specs.Texts.{padding}
 use Rattle.write_slots.specs.Words.{Words, serial, text, range, name, undefined, makerDefined}
-use Rattle.write_slots.specs.Slot.{tagged, slotBytes}
+use Rattle.write_slots.specs.Slot.{tagged, offsetsByte, slotBytes}
+
+-- what stands behind the tag: the offsets of range limits, and nothing else
+abbrev pub behindTag : List StandardTiming → List WhitePoint → List Words → ℕ
+behindTag [] [] (range l s ∷ ds) = offsetsByte l
+behindTag [] [] (serial t ∷ ds) = 0
+behindTag [] [] (text t ∷ ds) = 0
+behindTag [] [] (name t ∷ ds) = 0
+behindTag [] [] (undefined tag t ∷ ds) = 0
+behindTag [] [] (makerDefined tag t ∷ ds) = 0
+behindTag [] [] [] = 0
+behindTag [] (w ∷ ws) ds = 0
+behindTag (p ∷ ps) ws ds = 0
 
 -- around the tag of a slot that holds no timing
-pub beside-tag : (ps : List StandardTiming) (ws : List WhitePoint) (ds : List Words) → (slotBytes [] ps ws ds ! 2 ≡ 0) × (slotBytes [] ps ws ds ! 4 ≡ 0)
+pub beside-tag : (ps : List StandardTiming) (ws : List WhitePoint) (ds : List Words) → (slotBytes [] ps ws ds ! 2 ≡ 0) × (slotBytes [] ps ws ds ! 4 ≡ behindTag ps ws ds)
 unfolding slotBytes
 beside-tag (p ∷ ps) ws ds = (refl, refl)
 beside-tag [] (w ∷ ws) ds = (refl, refl)

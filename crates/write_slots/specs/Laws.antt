@@ -18,7 +18,7 @@ use Rattle.standard_record.specs.declared.WhitePoint.{WhitePoint}
 use Rattle.standard_record.specs.declared.Descriptor.{Descriptor}
 use Rattle.standard_timing.specs.Timing.{clockIn, timingIn}
 use Rattle.standard_timing.specs.declared.Timed.{Timed}
-use Rattle.standard_parts.specs.Descriptors.{closingRefusal, rangeRefusal, limitsOf, secondaryOf}
+use Rattle.standard_parts.specs.Descriptors.{closingRefusal, rangeRefusal, offsetsOf, limitsOf, secondaryOf}
 use Rattle.standard_parts.specs.Text.{textLength, allSpaces}
 use Rattle.standard_parts.specs.TextEnds.{text-ends}
 use Rattle.standard_parts.specs.declared.Structure.{Structure}
@@ -72,10 +72,10 @@ module _ (σ : Structure) (b : List ℕ) (at : ℕ) where
       agree (secondary b) (secondary slot) (eqb kind 0) refl
       (agree (secondary b) (secondary slot) (eqb kind 2) refl (ap (other kind) (span 11 7 (omega arith))))
 
-  range-span : words b (rangeIn slot at) ≡ words slot (rangeIn slot 0)
+  range-span : words b (rangeIn σ slot at) ≡ words slot (rangeIn σ slot 0)
   unfolding rangeIn
   range-span =
-      ap (range (limitsOf (slot ! 5) (slot ! 6) (slot ! 7) (slot ! 8) (slot ! 9)))
+      ap (range (limitsOf (offsetsOf σ (slot ! 4)) (slot ! 5) (slot ! 6) (slot ! 7) (slot ! 8) (slot ! 9)))
       (second-span (slot ! 10) (slot ! 12) (slot ! 13) (slot ! 14) (slot ! 15) (slot ! 16) (slot ! 17))
 
   raw-span : words b (rawOf (slot ! 3) (record { start = at + 5; len = 13 })) ≡ words slot (rawOf (slot ! 3) (record { start = 5; len = 13 }))

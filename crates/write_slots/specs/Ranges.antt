@@ -1,50 +1,35 @@
 -- Laws: a slot of range limits, with its secondary timing.
-use Prim.Native.Nat.{ℕ, suc, _+_, _*_, _/_, _<_}
+use Prim.Native.Nat.{ℕ, zero, suc, _+_, _-_, _*_, _/_, _%_, _<_, _≤_}
 use mathlib.Core.Path.{_≡_, refl, sym, ap, _∙_}
-use mathlib.Core.Bool.{Bool, true, false, cond, not}
+use mathlib.Core.Bool.{Bool, true, false, _||_, cond, not}
 use mathlib.Core.List.{List, _++_}
 use native.Mathlib.Omega.{arith}
-use lib.Dec.{eqb, ltb}
+use lib.Dec.{eqb, leb, ltb}
 use lib.ListN.{length, length-take, length-drop}
 use lib.Seq.{take-all}
-use borrow.Author.Tests.{eqb-true, eq-eqb, not-true, ltb-true, lt-ltb}
+use borrow.Author.Tests.{eqb-true, eq-eqb, not-true, leb-true, leb-false, lt-leb, ltb-true, lt-ltb}
 use Rattle.bits.specs.Bytes.{_!_, part}
+use Rattle.bits.specs.Fields.{digits}
 use Rattle.tags.specs.Tags.{tagOf}
 use Rattle.standard_record.specs.declared.Limits.{Limits}
 use Rattle.standard_record.specs.declared.SecondaryTiming.{SecondaryTiming}
 use Rattle.standard_record.specs.declared.Descriptor.{Descriptor}
-use Rattle.standard_parts.specs.Descriptors.{limitsOf, secondaryOf, closingRefusal, rangeRefusal}
+use Rattle.standard_parts.specs.Structure.{since4}
+use Rattle.standard_parts.specs.Descriptors.{toMin, toMax, offsetsOf, limitsOf, secondaryOf, closingRefusal, rangeRefusal}
 use Rattle.standard_parts.specs.declared.Structure.{Structure}
 use Rattle.standard_slots.specs.Spans.{SoundSecond}
 use Rattle.standard_slots.specs.Said.{rangeIn, said}
-use Rattle.write_leaf.specs.Bytes.{Bytes, low}
-use Rattle.write_leaf.specs.Digits.{both-hold, three-hold, four-hold}
+use Rattle.write_leaf.specs.Bytes.{Bytes, digit, low}
+use Rattle.write_leaf.specs.Digits.{both-hold, two-hold, three-hold, four-hold}
 use Rattle.write_slots.specs.Words.{Secondary, none, gtf, other, range, bytesOf, secondary, words}
-use Rattle.write_slots.specs.Slot.{tagged, limitsBytes, secondaryBytes}
+use Rattle.write_slots.specs.Slot.{headed, offsetCode, offsetsByte, limitsBytes, secondaryBytes}
 use Rattle.write_slots.specs.Writes.{WritesDescriptor}
-use Rattle.write_slots.specs.Tests.{exact, counted, secondaryFits, rangeFits}
+use Rattle.write_slots.specs.Tests.{exact, counted, secondaryFits, endsFit, limitsFit, rangeFits}
 use Rattle.write_slots.specs.Runs.{pad-whole, pad-size}
 use Rattle.write_slots.specs.Tells.{tells}
 use Rattle.write_slots.specs.Descriptors.{Shown, shown-size, exact-is, is-exact}
 
--- ---- the limits
-
--- as they are read again
-abbrev again : Limits → Limits
-again l = limitsOf (l .vmin) (l .vmax) (low (l .hmin / 1000)) (low (l .hmax / 1000)) (low (l .clock / 10000000))
-
-limits-back : (l : Limits) → counted 1000 (l .hmin) ≡ true → counted 1000 (l .hmax) ≡ true → counted 10000000 (l .clock) ≡ true → again l ≡ l
-limits-back l a b c =
-    λ i. record {
-      vmin = l .vmin;
-      vmax = l .vmax;
-      hmin = eqb-true (low (l .hmin / 1000) * 1000) (l .hmin) a i;
-      hmax = eqb-true (low (l .hmax / 1000) * 1000) (l .hmax) b i;
-      clock = eqb-true (low (l .clock / 10000000) * 10000000) (l .clock) c i;
-    }
-
-counted-thousands : (b : ℕ) → b < 256 → counted 1000 (b * 1000) ≡ true
-counted-thousands b h = eq-eqb (low (b * 1000 / 1000) * 1000) (b * 1000) (omega arith)
+-- ---- numbers of units
 
 counted-starts : (b : ℕ) → b < 256 → counted 2000 (b * 2000) ≡ true
 counted-starts b h = eq-eqb (low (b * 2000 / 2000) * 2000) (b * 2000) (omega arith)
@@ -52,28 +37,155 @@ counted-starts b h = eq-eqb (low (b * 2000 / 2000) * 2000) (b * 2000) (omega ari
 counted-clocks : (b : ℕ) → b < 256 → counted 10000000 (b * 10000000) ≡ true
 counted-clocks b h = eq-eqb (low (b * 10000000 / 10000000) * 10000000) (b * 10000000) (omega arith)
 
+-- ---- the two ends of a range
+
+module _ (min max : ℕ) where
+  abbrev code : ℕ
+  code = offsetCode min max
+
+  pub code-under : code ≤ 3
+  code-under = go (leb 256 min) (leb 256 max)
+    where
+      go : (x y : Bool) → cond x 3 (cond y 2 0) ≤ 3
+      go true y = omega arith
+      go false true = omega arith
+      go false false = omega arith
+
+  ends-back : (σ : Structure) → endsFit σ min max ≡ true
+      → (low (min - toMin code) + toMin code ≡ min) × (low (max - toMax code) + toMax code ≡ max) × (since4 σ ≡ false → code ≡ 0)
+  ends-back σ h =
+      let p = three-hold (eqb (low (min - toMin code) + toMin code) min) (eqb (low (max - toMax code) + toMax code) max) (since4 σ || eqb code 0) h in
+      (eqb-true _ _ (p .0), eqb-true _ _ (p .1), λ old. eqb-true code 0 (rw old at (p .2)))
+
+  -- what is read with some code, below revision 4 with none
+  record Ends (σ : Structure) : Type 0 where
+    upper : max ≤ 510
+    lower : 256 ≤ min → (min ≤ 510) × (255 ≤ max)
+    old : since4 σ ≡ false → (min ≤ 255) × (max ≤ 255)
+
+  ends-fit : (σ : Structure) → Ends σ → endsFit σ min max ≡ true
+  ends-fit σ e = go (leb 256 min) (leb 256 max) (since4 σ) refl refl refl
+    where
+      go : (x y z : Bool) → leb 256 min ≡ x → leb 256 max ≡ y → since4 σ ≡ z → endsFit σ min max ≡ true
+      go true y true p q r =
+          let k = leb-true 256 min p in
+          let l = e .lower k in
+          let u = e .upper in
+          rw (p, r, eq-eqb (low (min - 255) + 255) min (omega arith), eq-eqb (low (max - 255) + 255) max (omega arith))
+      go false true true p q r =
+          let l = leb-false 256 min p in
+          let h = leb-true 256 max q in
+          let u = e .upper in
+          rw (p, q, r, eq-eqb (low (min - 0) + 0) min (omega arith), eq-eqb (low (max - 255) + 255) max (omega arith))
+      go false false z p q r =
+          let l = leb-false 256 min p in
+          let h = leb-false 256 max q in
+          rw (p, q, eq-eqb (low (min - 0) + 0) min (omega arith), eq-eqb (low (max - 0) + 0) max (omega arith)) (either z r)
+        where
+          either : (z : Bool) → since4 σ ≡ z → eqb (1 + 1 + digit (since4 σ || true)) 3 ≡ true
+          either true r = rw r
+          either false r = rw r
+      go true y false p q r = let o = e .old r in absurd (omega (arith, leb-true 256 min p))
+      go false true false p q r = let o = e .old r in absurd (omega (arith, leb-true 256 max q))
+
+-- two bytes and a code
+ends-of : (σ : Structure) (code a b : ℕ) → code < 4 → a < 256 → b < 256 → (since4 σ ≡ false → code ≡ 0) → Ends (a + toMin code) (b + toMax code) σ
+ends-of σ zero a b few ha hb old = record { upper = omega arith; lower = λ h. absurd (omega arith); old = λ e. omega arith }
+ends-of σ (suc zero) a b few ha hb old = record { upper = omega arith; lower = λ h. absurd (omega arith); old = λ e. omega arith }
+ends-of σ (suc (suc zero)) a b few ha hb old = record { upper = omega arith; lower = λ h. absurd (omega arith); old = λ e. absurd (omega (arith, old e)) }
+ends-of σ (suc (suc (suc zero))) a b few ha hb old = record { upper = omega arith; lower = λ h. omega arith; old = λ e. absurd (omega (arith, old e)) }
+ends-of σ (suc (suc (suc (suc code)))) a b few ha hb old = absurd (omega arith)
+
+-- no code that they are read with is lower than the one that they are written with
+pub lowest : (code a b : ℕ) → code < 4 → a < 256 → b < 256 → offsetCode (a + toMin code) (b + toMax code) ≤ code
+lowest zero a b few ha hb = rw (lt-leb 256 (a + 0) (omega arith), lt-leb 256 (b + 0) (omega arith)) (omega arith)
+lowest (suc zero) a b few ha hb = rw (lt-leb 256 (a + 0) (omega arith), lt-leb 256 (b + 0) (omega arith)) (omega arith)
+lowest (suc (suc zero)) a b few ha hb = rw (lt-leb 256 (a + 0) (omega arith)) (go (leb 256 (b + 255)))
+  where
+    go : (y : Bool) → cond y 2 0 ≤ 2
+    go true = omega arith
+    go false = omega arith
+lowest (suc (suc (suc zero))) a b few ha hb = code-under (a + 255) (b + 255)
+lowest (suc (suc (suc (suc code)))) a b few ha hb = absurd (omega arith)
+
+-- ---- the limits
+
+-- as they are read again
+module _ (σ : Structure) (l : Limits) where
+  abbrev v : ℕ
+  v = offsetCode (l .vmin) (l .vmax)
+
+  abbrev h : ℕ
+  h = offsetCode (l .hmin / 1000) (l .hmax / 1000)
+
+  abbrev again : Limits
+  again =
+      limitsOf (offsetsOf σ (offsetsByte l)) (low (l .vmin - toMin v)) (low (l .vmax - toMax v)) (low (l .hmin / 1000 - toMin h))
+      (low (l .hmax / 1000 - toMax h)) (low (l .clock / 10000000))
+
+  -- the byte of the offsets is read where it is not 0
+  offsets-back : (since4 σ ≡ false → v ≡ 0) → (since4 σ ≡ false → h ≡ 0) → offsetsOf σ (offsetsByte l) ≡ offsetsByte l
+  offsets-back p q = go (since4 σ) refl
+    where
+      go : (z : Bool) → since4 σ ≡ z → offsetsOf σ (offsetsByte l) ≡ offsetsByte l
+      go true e = rw e
+      go false e = rw e (omega (arith, p e, q e))
+
+  limits-back : limitsFit σ l ≡ true → again ≡ l
+  unfolding limitsOf
+  limits-back e =
+      let p = four-hold (endsFit σ (l .vmin) (l .vmax)) (endsFit σ (l .hmin / 1000) (l .hmax / 1000)) (eqb (l .hmin % 1000 + l .hmax % 1000) 0) (counted 10000000 (l .clock)) e in
+      let vs = ends-back (l .vmin) (l .vmax) σ (p .0) in
+      let hs = ends-back (l .hmin / 1000) (l .hmax / 1000) σ (p .1) in
+      let whole = eqb-true (l .hmin % 1000 + l .hmax % 1000) 0 (p .2) in
+      let least : l .hmin / 1000 * 1000 ≡ l .hmin = omega arith in
+      let most : l .hmax / 1000 * 1000 ≡ l .hmax = omega arith in
+      let few = code-under (l .vmin) (l .vmax) in
+      let v-is : digits (offsetsByte l) 0 2 ≡ v = omega arith in
+      let h-is : digits (offsetsByte l) 2 2 ≡ h = omega (arith, code-under (l .hmin / 1000) (l .hmax / 1000)) in
+      rw (offsets-back (vs .2) (hs .2), v-is, h-is, vs .0, vs .1, hs .0, hs .1, least, most, eqb-true (low (l .clock / 10000000) * 10000000) (l .clock) (p .3))
+
+  -- what six bytes are read as fits
+  limits-fit : (b4 b5 b6 b7 b8 b9 : ℕ) → b5 < 256 → b6 < 256 → b7 < 256 → b8 < 256 → b9 < 256 → limitsOf (offsetsOf σ b4) b5 b6 b7 b8 b9 ≡ l
+      → limitsFit σ l ≡ true
+  unfolding limitsOf
+  limits-fit b4 b5 b6 b7 b8 b9 h5 h6 h7 h8 h9 e =
+      let o = offsetsOf σ b4 in
+      let old : since4 σ ≡ false → o ≡ 0 = λ z. rw z in
+      let least : (b7 + toMin (digits o 2 2)) * 1000 / 1000 ≡ b7 + toMin (digits o 2 2) = omega arith in
+      let most : (b8 + toMax (digits o 2 2)) * 1000 / 1000 ≡ b8 + toMax (digits o 2 2) = omega arith in
+      rw (
+        ← e,
+        least,
+        most,
+        ends-fit (b5 + toMin (digits o 0 2)) (b6 + toMax (digits o 0 2)) σ (ends-of σ (digits o 0 2) b5 b6 (omega arith) h5 h6 (λ z. omega (arith, old z))),
+        ends-fit (b7 + toMin (digits o 2 2)) (b8 + toMax (digits o 2 2)) σ (ends-of σ (digits o 2 2) b7 b8 (omega arith) h7 h8 (λ z. omega (arith, old z))),
+        eq-eqb ((b7 + toMin (digits o 2 2)) * 1000 % 1000 + (b8 + toMax (digits o 2 2)) * 1000 % 1000) 0 (omega arith),
+        counted-clocks b9 h9,
+      )
+
 -- ---- from the bytes
 
 abbrev slot : Limits → Secondary → List ℕ
-slot l s = tagged 0xfd (limitsBytes l ++ secondaryBytes s)
+slot l s = headed 0xfd (offsetsByte l) (limitsBytes l ++ secondaryBytes s)
 
-none-shown : (σ : Structure) (l : Limits) → Shown σ (slot l none) (range (again l) none)
+none-shown : (σ : Structure) (l : Limits) → Shown σ (slot l none) (range (again σ l) none)
 unfolding said tagOf rangeRefusal closingRefusal rangeIn secondaryOf
 none-shown σ l = refl
 
-gtf-shown : (σ : Structure) (l : Limits) (start c m k j : ℕ) → counted 2000 start ≡ true → m < 65536 → Shown σ (slot l (gtf start c m k j)) (range (again l) (gtf start c m k j))
+gtf-shown : (σ : Structure) (l : Limits) (start c m k j : ℕ) → counted 2000 start ≡ true → m < 65536 → Shown σ (slot l (gtf start c m k j)) (range (again σ l) (gtf start c m k j))
 unfolding said tagOf rangeRefusal rangeIn secondaryOf
 gtf-shown σ l start c m k j h e =
     let m-is : low m + 256 * low (m / 256) ≡ m = omega arith in
     rw (eqb-true (low (start / 2000) * 2000) start h, m-is)
 
 other-shown : (σ : Structure) (l : Limits) (kind : ℕ) (run : List ℕ) → eqb kind 0 ≡ false → eqb kind 2 ≡ false → length run ≡ 7
-    → Shown σ (slot l (other kind run)) (range (again l) (other kind run))
+    → Shown σ (slot l (other kind run)) (range (again σ l) (other kind run))
 unfolding said tagOf rangeRefusal rangeIn secondaryOf
 other-shown σ l kind run h k e = rw (pad-whole 7 run e, h, k, take-all 7 run (omega arith))
 
 secondary-shown : (σ : Structure) (lent : List ℕ) (l : Limits) (s : SecondaryTiming) → secondaryFits s (length lent) ≡ true
-    → SoundSecond s (length lent) × Shown σ (slot l (secondary lent s)) (range (again l) (secondary lent s))
+    → SoundSecond s (length lent) × Shown σ (slot l (secondary lent s)) (range (again σ l) (secondary lent s))
 secondary-shown σ lent l SecondaryTiming.None h = (tt, none-shown σ l)
 secondary-shown σ lent l (SecondaryTiming.GTF start c m k j) h =
     let p = both-hold (ltb m 65536) (counted 2000 start) h in
@@ -119,12 +231,12 @@ module _ (lent t : List ℕ) (size : length t ≡ 18) (b : Bytes t) where
       let z : length (part t 11 7) ≡ 7 = simp (length-take, length-drop) (omega arith) in
       rw (← q .2, q .0, q .1, is-exact 7 s lent h (ap length (sym (q .3)) ∙ z))
 
-  range-fits : (l : Limits) (s : SecondaryTiming) → SoundSecond s (length lent) → words t (rangeIn t 0) ≡ range l (secondary lent s)
-      → rangeFits l s (length lent) ≡ true
+  range-fits : (σ : Structure) (l : Limits) (s : SecondaryTiming) → SoundSecond s (length lent) → words t (rangeIn σ t 0) ≡ range l (secondary lent s)
+      → rangeFits σ l s (length lent) ≡ true
   unfolding rangeIn
-  range-fits l s h e =
-      let l-is : limitsOf (t ! 5) (t ! 6) (t ! 7) (t ! 8) (t ! 9) ≡ l = cc in
-      rw (secondary-fits s h (cc), ← l-is, counted-thousands (t ! 7) (b 7), counted-thousands (t ! 8) (b 8), counted-clocks (t ! 9) (b 9))
+  range-fits σ l s h e =
+      let l-is : limitsOf (offsetsOf σ (t ! 4)) (t ! 5) (t ! 6) (t ! 7) (t ! 8) (t ! 9) ≡ l = cc in
+      rw (secondary-fits s h (cc), limits-fit σ l (t ! 4) (t ! 5) (t ! 6) (t ! 7) (t ! 8) (t ! 9) (b 5) (b 6) (b 7) (b 8) (b 9) l-is)
 
 -- ---- the slot
 
@@ -134,13 +246,13 @@ secondary-size (gtf start c m k j) = refl
 secondary-size (other kind run) = ap suc (pad-size 7 run)
 
 pub writes-range : (σ : Structure) (lent : List ℕ) (l : Limits) (s : SecondaryTiming)
-    → WritesDescriptor σ lent (Descriptor.Range l s) (rangeFits l s (length lent)) (slot l (secondary lent s))
+    → WritesDescriptor σ lent (Descriptor.Range l s) (rangeFits σ l s (length lent)) (slot l (secondary lent s))
 writes-range σ lent l s =
     record {
       made = refl;
       sound = λ h.
-          let p = four-hold (counted 1000 (l .hmin)) (counted 1000 (l .hmax)) (counted 10000000 (l .clock)) (secondaryFits s (length lent)) h in
-          let q = secondary-shown σ lent l s (p .3) in
-          (q .0, record { size = omega (arith, secondary-size (secondary lent s)); shown = rw (limits-back l (p .0) (p .1) (p .2)) at (q .1) });
-      complete = λ t h r. range-fits lent t (r .1 .size) h l s (r .0) (tells t (r .1 .size) h σ (range l (secondary lent s)) (r .1 .shown));
+          let p = two-hold (limitsFit σ l) (secondaryFits s (length lent)) h in
+          let q = secondary-shown σ lent l s (p .1) in
+          (q .0, record { size = omega (arith, secondary-size (secondary lent s)); shown = rw (limits-back σ l (p .0)) at (q .1) });
+      complete = λ t h r. range-fits lent t (r .1 .size) h σ l s (r .0) (tells t (r .1 .size) h σ (range l (secondary lent s)) (r .1 .shown));
     }

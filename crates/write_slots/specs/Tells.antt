@@ -36,13 +36,13 @@ raw-middle : (n : ℕ) → n < 256 → tagOf n ≡ Tag.Raw → ltb n 0x10 ≡ fa
 unfolding tagOf
 raw-middle n h p q = rw (p, q) at (at (λ k. cond (isRaw (tagOf k)) (cond (ltb k 0x10) true (middle k)) true) 256 refl n h)
 
-abbrev pub Tells : List ℕ → Words → Type 0
-Tells t (serial u) = ReadsText (part t 5 13) u
-Tells t (text u) = ReadsText (part t 5 13) u
-Tells t (range l s) = words t (rangeIn t 0) ≡ range l s
-Tells t (name u) = ReadsText (part t 5 13) u
-Tells t (undefined tag u) = (middle tag ≡ true) × (part t 5 13 ≡ u)
-Tells t (makerDefined tag u) = (ltb tag 0x10 ≡ true) × (part t 5 13 ≡ u)
+abbrev pub Tells : Structure → List ℕ → Words → Type 0
+Tells σ t (serial u) = ReadsText (part t 5 13) u
+Tells σ t (text u) = ReadsText (part t 5 13) u
+Tells σ t (range l s) = words t (rangeIn σ t 0) ≡ range l s
+Tells σ t (name u) = ReadsText (part t 5 13) u
+Tells σ t (undefined tag u) = (middle tag ≡ true) × (part t 5 13 ≡ u)
+Tells σ t (makerDefined tag u) = (ltb tag 0x10 ≡ true) × (part t 5 13 ≡ u)
 
 abbrev wordsOf : Shows → List Words
 wordsOf refused = []
@@ -59,29 +59,29 @@ module _ (t : List ℕ) (size : length t ≡ 18) (b : Bytes t) where
     is = take-take (textLength (part t 5 13)) 13 (drop 5 t) (omega (arith, text-ends (part t 5 13) .short, part-size));
   }
 
-  range-told : Tells t (words t (rangeIn t 0))
+  range-told : (σ : Structure) → Tells σ t (words t (rangeIn σ t 0))
   unfolding rangeIn
-  range-told = refl
+  range-told σ = refl
 
-  raw-told : tagOf (t ! 3) ≡ Tag.Raw → Tells t (words t (rawOf (t ! 3) (record { start = 5; len = 13 })))
-  raw-told p = go (ltb (t ! 3) 0x10) refl
+  raw-told : (σ : Structure) → tagOf (t ! 3) ≡ Tag.Raw → Tells σ t (words t (rawOf (t ! 3) (record { start = 5; len = 13 })))
+  raw-told σ p = go (ltb (t ! 3) 0x10) refl
     where
       go : (z : Bool) → ltb (t ! 3) 0x10 ≡ z
-          → Tells t (words t (cond z (Descriptor.MakerDefined (t ! 3) (record { start = 5; len = 13 })) (Descriptor.Undefined (t ! 3) (record { start = 5; len = 13 }))))
+          → Tells σ t (words t (cond z (Descriptor.MakerDefined (t ! 3) (record { start = 5; len = 13 })) (Descriptor.Undefined (t ! 3) (record { start = 5; len = 13 }))))
       go true e = (e, refl)
       go false e = (raw-middle (t ! 3) (b 3) p e, refl)
 
-  pub tells : (σ : Structure) (w : Words) → shows t (said σ 1 t 0) ≡ these (entries [] [] [] (w ∷ [])) → Tells t w
+  pub tells : (σ : Structure) (w : Words) → shows t (said σ 1 t 0) ≡ these (entries [] [] [] (w ∷ [])) → Tells σ t w
   tells σ w h =
-      told (λ x. wordsOf (shows t x) ≡ w ∷ [] → Tells t w) σ t 0 (record {
+      told (λ x. wordsOf (shows t x) ≡ w ∷ [] → Tells σ t w) σ t 0 (record {
         refused = λ n e. absurd (nil≢cons e);
         none = λ e. absurd (nil≢cons e);
         timed = λ d l p e. absurd (nil≢cons e);
         listed = λ e. absurd (nil≢cons e);
         pointed = λ e. absurd (nil≢cons e);
-        name = λ p e. subst (Tells t) (head-eq-of-cons-eq e) (text-told p);
-        text = λ p e. subst (Tells t) (head-eq-of-cons-eq e) (text-told p);
-        serial = λ p e. subst (Tells t) (head-eq-of-cons-eq e) (text-told p);
-        range = λ e. subst (Tells t) (head-eq-of-cons-eq e) range-told;
-        raw = λ p e. subst (Tells t) (head-eq-of-cons-eq e) (raw-told p);
+        name = λ p e. subst (Tells σ t) (head-eq-of-cons-eq e) (text-told p);
+        text = λ p e. subst (Tells σ t) (head-eq-of-cons-eq e) (text-told p);
+        serial = λ p e. subst (Tells σ t) (head-eq-of-cons-eq e) (text-told p);
+        range = λ e. subst (Tells σ t) (head-eq-of-cons-eq e) (range-told σ);
+        raw = λ p e. subst (Tells σ t) (head-eq-of-cons-eq e) (raw-told σ p);
       }) 1 (ap wordsOf h)

@@ -1,5 +1,6 @@
-// The 18 bytes of a slot that holds no timing: pairs, white points, or a descriptor, the bytes of whose span are lent. Points and descriptors
-// are read alike by every structure σ.
+// The 18 bytes of a slot that holds no timing: pairs, white points, or a descriptor, the bytes of whose span are lent. White points are read alike by
+// every structure σ.
+use standard_parts::Structure;
 use standard_record::Descriptor;
 use standard_record::Limits;
 use standard_record::SecondaryTiming;
@@ -9,14 +10,19 @@ use write_leaf::SlotBytes;
 use write_pairs::PairsBytes;
 use write_parts::PointBytes;
 ghost use mathlib.Core.Path.{_≡_};
+ghost use mathlib.Core.Bool.{_||_};
 ghost use mathlib.Core.List.{[], _∷_, _++_};
+ghost use lib.Dec.{eqb};
 ghost use lib.ListN.{length, take};
+ghost use Prim.Native.Nat.{_-_, _≤_};
 ghost use Rattle.fixed.specs.Fixed.{pad};
+ghost use Rattle.standard_parts.specs.Structure.{since4};
 ghost use Rattle.standard_parts.specs.declared.Structure.{Structure};
-ghost use Rattle.write_slots.specs.Slot.{tagged, limitsBytes, secondaryBytes};
+ghost use Rattle.write_slots.specs.Slot.{headed, tagged, offsetCode, offsetsByte, limitsBytes, secondaryBytes};
 ghost use Rattle.write_slots.specs.Writes.{WritesPoints, WritesDescriptor};
-ghost use Rattle.write_slots.specs.Tests.{bothPoints, pointsRest, within, exact, WritesSpan, runFits, secondaryFits, rangeFits};
+ghost use Rattle.write_slots.specs.Tests.{bothPoints, pointsRest, within, exact, WritesSpan, runFits, secondaryFits, rangeFits, MakesEnds, MakesLimits};
 ghost use Rattle.write_slots.specs.Words.{bytesOf, secondary};
+ghost use Rattle.write_leaf.specs.Bytes.{low};
 
 // The 13 bytes behind a tag.
 struct Rest {
@@ -30,9 +36,24 @@ struct SecondaryBytes {
     bytes: [u8; 8],
 }
 
-// A slot without a clock.
-fn tagged(tag: u8, rest: Rest) -> SlotBytes
-    ensures { λ r. ⌜ (r .fits ≡ rest .fits) × (r .bytes ≡ tagged tag (rest .bytes)) ⌝ }
+// The two ends of a range, and the code of what is added to them.
+struct EndsBytes {
+    fits: bool,
+    code: u8,
+    min: u8,
+    max: u8,
+}
+
+// The limits, and the byte of their offsets.
+struct LimitsBytes {
+    fits: bool,
+    offsets: u8,
+    bytes: [u8; 5],
+}
+
+// A slot without a clock: its tag, and the byte behind it.
+fn headed(tag: u8, b4: u8, rest: Rest) -> SlotBytes
+    ensures { λ r. ⌜ (r .fits ≡ rest .fits) × (r .bytes ≡ headed tag b4 (rest .bytes)) ⌝ }
 {
     let b = rest.bytes;
     let bytes = [
@@ -40,7 +61,7 @@ fn tagged(tag: u8, rest: Rest) -> SlotBytes
         0,
         0,
         tag,
-        0,
+        b4,
         b[0],
         b[1],
         b[2],
@@ -59,6 +80,12 @@ fn tagged(tag: u8, rest: Rest) -> SlotBytes
         fits: rest.fits,
         bytes,
     }
+}
+
+fn tagged(tag: u8, rest: Rest) -> SlotBytes
+    ensures { λ r. ⌜ (r .fits ≡ rest .fits) × (r .bytes ≡ tagged tag (rest .bytes)) ⌝ }
+{
+    headed(tag, 0, rest)
 }
 
 // ---- white points
@@ -245,25 +272,88 @@ fn secondary_bytes(s: SecondaryTiming, lent: &[u8]) -> SecondaryBytes
     }
 }
 
-fn range_rest(l: Limits, s: SecondaryTiming, lent: &[u8]) -> Rest
-    ensures { λ r. ⌜ (r .fits ≡ rangeFits l s (length (now (lent .entry)))) × (r .bytes ≡ limitsBytes l ++ secondaryBytes (secondary (now (lent .entry)) s)) ⌝ }
+// The lowest that fits.
+fn offset_code(min: u32, max: u32) -> u8
+    ensures { λ r. ⌜ (r ≡ offsetCode min max) × (r ≤ 3) ⌝ }
 {
-    let hmin = l.hmin / 1000 % 256;
-    let hmax = l.hmax / 1000 % 256;
+    if 256 <= min {
+        return 3;
+    }
+    if 256 <= max {
+        return 2;
+    }
+    0
+}
+
+fn less(n: u32, offset: u16) -> u8
+    ensures { λ r. ⌜ r ≡ low (n - offset) ⌝ }
+{
+    let k = offset as u32;
+    if n < k { 0 } else { ((n - k) % 256) as u8 }
+}
+
+// An offset is read from revision 4 on.
+fn is_read(structure: Structure, code: u8) -> bool
+    ensures { λ r. ⌜ r ≡ (since4 structure || eqb code 0) ⌝ }
+{
+    if standard_parts::since_4(structure) {
+        true
+    } else {
+        code == 0
+    }
+}
+
+// The two ends of a range, in units.
+fn ends_bytes(structure: Structure, min: u32, max: u32) -> EndsBytes
+    ensures { λ r. ⌜ MakesEnds structure min max r ⌝ }
+{
+    let code = offset_code(min, max);
+    let below = standard_parts::to_min(code);
+    let above = standard_parts::to_max(code);
+    let first = less(min, below);
+    let second = less(max, above);
+    EndsBytes {
+        fits: write_leaf::digit(first as u32 + below as u32 == min)
+            + write_leaf::digit(second as u32 + above as u32 == max)
+            + write_leaf::digit(is_read(structure, code))
+            == 3,
+        code,
+        min: first,
+        max: second,
+    }
+}
+
+fn limits_bytes(structure: Structure, l: Limits) -> LimitsBytes
+    ensures { λ r. ⌜ MakesLimits structure l r ⌝ }
+{
+    let v = ends_bytes(structure, l.vmin as u32, l.vmax as u32);
+    let h = ends_bytes(structure, l.hmin / 1000, l.hmax / 1000);
     let clock = l.clock / 10000000 % 256;
+    LimitsBytes {
+        fits: write_leaf::digit(v.fits)
+            + write_leaf::digit(h.fits)
+            + write_leaf::digit(l.hmin % 1000 + l.hmax % 1000 == 0)
+            + write_leaf::digit(clock * 10000000 == l.clock)
+            == 4,
+        offsets: v.code + 4 * h.code,
+        bytes: [v.min, v.max, h.min, h.max, clock as u8],
+    }
+}
+
+fn range_slot(structure: Structure, l: Limits, s: SecondaryTiming, lent: &[u8]) -> SlotBytes
+    ensures { λ r. ⌜ (r .fits ≡ rangeFits structure l s (length (now (lent .entry)))) × (r .bytes ≡ headed 0xfd (offsetsByte l) (limitsBytes l ++ secondaryBytes (secondary (now (lent .entry)) s))) ⌝ }
+{
+    let limits = limits_bytes(structure, l);
     let second = secondary_bytes(s, lent);
-    let fits = write_leaf::digit(hmin * 1000 == l.hmin)
-        + write_leaf::digit(hmax * 1000 == l.hmax)
-        + write_leaf::digit(clock * 10000000 == l.clock)
-        + write_leaf::digit(second.fits)
-        == 4;
+    let fits = write_leaf::digit(limits.fits) + write_leaf::digit(second.fits) == 2;
+    let a = limits.bytes;
     let b = second.bytes;
     let bytes = [
-        l.vmin,
-        l.vmax,
-        hmin as u8,
-        hmax as u8,
-        clock as u8,
+        a[0],
+        a[1],
+        a[2],
+        a[3],
+        a[4],
         b[0],
         b[1],
         b[2],
@@ -273,20 +363,18 @@ fn range_rest(l: Limits, s: SecondaryTiming, lent: &[u8]) -> Rest
         b[6],
         b[7],
     ];
-    Rest { fits, bytes }
+    headed(0xfd, limits.offsets, Rest { fits, bytes })
 }
 
 // ---- descriptors
 
-pub fn descriptor_bytes(d: Descriptor, lent: &[u8]) -> SlotBytes
-    ensures { λ r. ⌜ ((σ : Structure) → WritesDescriptor σ (now (lent .entry)) d (r .fits) (r .bytes)) ⌝ }
+pub fn descriptor_bytes(structure: Structure, d: Descriptor, lent: &[u8]) -> SlotBytes
+    ensures { λ r. ⌜ WritesDescriptor structure (now (lent .entry)) d (r .fits) (r .bytes) ⌝ }
 {
     match d {
         Descriptor::Serial(s) => tagged(0xff, text_rest(s, lent)),
         Descriptor::Text(s) => tagged(0xfe, text_rest(s, lent)),
-        Descriptor::Range { limits, secondary } => {
-            tagged(0xfd, range_rest(limits, secondary, lent))
-        }
+        Descriptor::Range { limits, secondary } => range_slot(structure, limits, secondary, lent),
         Descriptor::Name(s) => tagged(0xfc, text_rest(s, lent)),
         Descriptor::Undefined { tag, data } => {
             let known = write_leaf::digit(0x11 <= tag) + write_leaf::digit(tag <= 0xf9) == 2;

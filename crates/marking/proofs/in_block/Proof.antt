@@ -6,7 +6,17 @@ use Rattle.marking.proofs.in_block.Tie as tie
 
 returns : tie.Need-returns
 unfolding inBlock
-returns c = rw (c .both .ensures, c .before .either .ensures, c .before .before .codes-zero .ensures, c .before .before .before .byte-at .ensures)
+returns c =
+    let b = c .before in
+    rw (c .byte-at2 .ensures, b .both .ensures, b .before .either .ensures, b .before .before .codes-zero .ensures, b .before .before .before .byte-at .ensures)
 
 pub in-block-spec : {M : Type 1} → statement M
-in-block-spec = tie.close (tie.spec (search needs) (search needs) (search needs) (search needs) returns)
+in-block-spec =
+    tie.close
+    (tie.spec
+    (search needs)
+    (search needs)
+    (search needs)
+    (search needs)
+    (search needs)
+    returns)

@@ -9,7 +9,8 @@ returns : tie.Need-returns
 unfolding marksLines
 returns c =
     let o = c .before .before in
-    let c5 = o .before .before in
+    let c6 = o .before .before in
+    let c5 = c6 .before .before .before in
     let c4 = c5 .before .before .before in
     let c3 = c4 .before .before .before in
     let c2 = c3 .before .before .before in
@@ -20,12 +21,15 @@ returns c =
     c3 .line-if3 .ensures so
     c4 .line-if4 .ensures so
     c5 .line-if5 .ensures so
-    (rw (o .one-of .ensures) at (c .line-if6 .ensures)) so done)
+    c6 .line-if6 .ensures so
+    (rw (o .one-of .ensures) at (c .line-if7 .ensures)) so done)
 
 pub marks-lines-spec : {M : Type 1} → statement M
 marks-lines-spec =
     tie.close
     (tie.spec
+    (search needs)
+    (search needs)
     (search needs)
     (search needs)
     (search needs)

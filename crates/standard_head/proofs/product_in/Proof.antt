@@ -7,26 +7,29 @@ use Rattle.standard_head.proofs.product_in.Tie as tie
 returns : tie.Need-returns
 unfolding productIn
 returns c =
-    let b = c .before .before .before in
+    let a = c .before .before .before in
+    let b = a .before .before .before in
     let d = b .before .before .before in
     let e = d .before .before .before in
     let f = e .before .before .before in
-    let g = f .before .before .before in
     rw (
-      c .byte-at10 .ensures,
-      c .before .byte-at9 .ensures,
-      c .before .before .long .ensures,
-      b .word3 .ensures,
-      b .before .byte-at8 .ensures,
+      c .byte-at11 .ensures,
+      c .before .week-of .ensures,
+      c .before .before .byte-at10 .ensures,
+      a .long .ensures,
+      a .before .word3 .ensures,
+      a .before .before .byte-at9 .ensures,
+      b .byte-at8 .ensures,
+      b .before .word2 .ensures,
       b .before .before .byte-at7 .ensures,
-      d .word2 .ensures,
-      d .before .byte-at6 .ensures,
+      d .byte-at6 .ensures,
+      d .before .word .ensures,
       d .before .before .byte-at5 .ensures,
-      e .word .ensures,
-      e .before .byte-at4 .ensures,
+      e .byte-at4 .ensures,
+      e .before .maker-of .ensures,
       e .before .before .byte-at3 .ensures,
-      f .maker-of .ensures,
-      f .before .byte-at2 .ensures,
+      f .byte-at2 .ensures,
+      f .before .structure-of .ensures,
       f .before .before .byte-at .ensures,
     )
 
@@ -34,6 +37,9 @@ pub product-in-spec : {M : Type 1} → statement M
 product-in-spec =
     tie.close
     (tie.spec
+    (search needs)
+    (search needs)
+    (search needs)
     (search needs)
     (search needs)
     (search needs)

@@ -6,7 +6,7 @@ use Rattle.standard_lines.proofs.features_line.Tie as tie
 
 returns : tie.Need-returns
 unfolding featuresLine
-returns c = rw (← c .before .before .kind-number .ensures) (c .dpms-line .ensures)
+returns c = c .features-by .ensures
 
 pub features-line-spec : {M : Type 1} → statement M
-features-line-spec = tie.close (tie.spec (search needs) (search needs) returns)
+features-line-spec = tie.close (tie.spec (search needs) returns)

@@ -17,7 +17,7 @@ returns c =
     c2 .letter .ensures so
     c3 .letter2 .ensures so
     c4 .letter3 .ensures so
-    c .product-numbers .ensures so done)
+    c .numbers .ensures so done)
 
 pub product-line-spec : {M : Type 1} → statement M
 product-line-spec =

@@ -18,6 +18,15 @@ returns-2 c =
     rw (c1 .before .before .before .before .t .given .1)
     (line (c1 .bytes2 .ensures so c2 .field16 .ensures so c3 .field162 .ensures so c .newline .ensures so done))
 
+returns-3 : tie.Need-returns-3
+unfolding sizeLine
+returns-3 c =
+    let c3 = c .before .before in
+    let c2 = c3 .before .before in
+    let c1 = c2 .before .before in
+    rw (c1 .before .before .before .before .t2 .given .1)
+    (line (c1 .bytes3 .ensures so c2 .field163 .ensures so c3 .field164 .ensures so c .newline2 .ensures so done))
+
 pub size-line-spec : {M : Type 1} → statement M
 size-line-spec =
     tie.close
@@ -31,5 +40,12 @@ size-line-spec =
     (search needs)
     (search needs)
     (search needs)
+    (search needs)
+    (search needs)
+    (search needs)
+    (search needs)
+    (search needs)
+    (search needs)
     returns
-    returns-2)
+    returns-2
+    returns-3)

@@ -13,17 +13,19 @@ returns c =
       c .is-set6 .ensures,
       c .before .is-set5 .ensures,
       c .before .before .is-set4 .ensures,
-      k .type-of .ensures,
+      k .kind-of .ensures,
       k .before .digits .ensures,
-      b .is-set3 .ensures,
-      b .before .is-set2 .ensures,
-      b .before .before .is-set .ensures,
+      b .tells-interface .ensures,
+      b .before .is-set3 .ensures,
+      b .before .before .is-set2 .ensures,
+      b .before .before .before .is-set .ensures,
     )
 
 pub features-of-spec : {M : Type 1} → statement M
 features-of-spec =
     tie.close
     (tie.spec
+    (search needs)
     (search needs)
     (search needs)
     (search needs)

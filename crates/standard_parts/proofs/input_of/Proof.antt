@@ -7,7 +7,7 @@ use Rattle.standard_parts.proofs.input_of.Tie as tie
 
 returns : tie.Need-returns
 unfolding inputOf
-returns c = simp (sym (c .before .before .is-set .ensures) ∙ c .before .if1 .taken) (rw (c .is-set2 .ensures))
+returns c = simp (sym (c .before .before .is-set .ensures) ∙ c .before .if1 .taken) (c .digital-of .ensures)
 
 returns-2 : tie.Need-returns-2
 unfolding inputOf
@@ -16,11 +16,11 @@ returns-2 c =
     let e = b .before .before .before in
     simp (sym (e .before .is-set .ensures) ∙ e .if1 .left)
     (rw (
-      c .is-set7 .ensures,
-      c .before .is-set6 .ensures,
-      c .before .before .is-set5 .ensures,
-      b .is-set4 .ensures,
-      b .before .is-set3 .ensures,
+      c .is-set6 .ensures,
+      c .before .is-set5 .ensures,
+      c .before .before .is-set4 .ensures,
+      b .is-set3 .ensures,
+      b .before .is-set2 .ensures,
       b .before .before .digits .ensures,
     ))
 

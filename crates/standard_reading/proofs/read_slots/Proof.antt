@@ -12,11 +12,12 @@ use Rattle.fixed.specs.Gather.{Holds, gather-more, held-at-most, took, kept, re
 use Rattle.bits.specs.Bytes.{part}
 use Rattle.standard_record.specs.Filler.{blankStandard}
 use Rattle.standard_record.specs.Held.{heldPair}
+use Rattle.standard_head.specs.Head.{structureIn}
 use Rattle.standard_slots.specs.Said.{ofPair, pairsAt, pairsIn}
 use Rattle.standard_slots.specs.Few.{pairs-at-most}
 use Rattle.standard_slots.specs.Answers.{ofSlot}
 use Rattle.standard_slots.specs.declared.Slot.{Slot}
-use Rattle.standard_reading.specs.Slots.{start, structureIn, saidIn, judged}
+use Rattle.standard_reading.specs.Slots.{start, saidIn, judged}
 use Rattle.standard_reading.specs.Block.{pairsOf, standardOf}
 use Rattle.standard_reading.proofs.Laws.{decides, Gathered, Bounds, bounds, one-more, pairs-so-far, lists-are}
 use Rattle.standard_reading.proofs.read_slots.Statement.{statement}
@@ -88,7 +89,7 @@ module _ (l : tie.At-loop2 Inv-loop μ-loop Inv-loop3 μ-loop3 Inv-loop2 μ-loop
 says : (c : tie.After-said Inv-loop μ-loop Inv-loop3 μ-loop3 Inv-loop2 μ-loop2) {r : Slot} → c .said .result ≡ r
     → let l : tie.At-loop2 Inv-loop μ-loop Inv-loop3 μ-loop3 Inv-loop2 μ-loop2 = c .before .before .before in
     saidIn (block l) (l .loop2 .i) ≡ ofSlot (pairsIn (structureIn (block l)) (part (block l) (start (l .loop2 .i)) 18)) r
-says c e = sym (rw add-sub-cancel-left at (c .said .ensures (structureIn (block (c .before .before .before))))) ∙ ap (ofSlot _) e
+says c e = sym (rw (add-sub-cancel-left, structure-is (c .before .before .before)) at (c .said .ensures)) ∙ ap (ofSlot _) e
 
 returns : tie.Need-returns Inv-loop μ-loop Inv-loop3 μ-loop3 Inv-loop2 μ-loop2
 unfolding standardOf

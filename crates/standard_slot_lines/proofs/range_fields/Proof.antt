@@ -8,8 +8,16 @@ use Rattle.standard_slot_lines.proofs.range_fields.Tie as tie
 returns : tie.Need-returns
 unfolding rangeFields
 returns c =
-    let c1 = c .before .before in
-    line (c1 .limits .ensures so c .secondary .ensures so done)
+    let c4 = c .before .before in
+    let c3 = c4 .before .before in
+    let c2 = c3 .before .before in
+    let c1 = c2 .before .before in
+    line (
+    c1 .bytes .ensures so
+    c2 .field16 .ensures so
+    c3 .field162 .ensures so
+    c4 .limits .ensures so
+    c .secondary .ensures so done)
 
 pub range-fields-spec : {M : Type 1} → statement M
-range-fields-spec = tie.close (tie.spec (search needs) (search needs) returns)
+range-fields-spec = tie.close (tie.spec (search needs) (search needs) (search needs) (search needs) (search needs) (search needs) returns)

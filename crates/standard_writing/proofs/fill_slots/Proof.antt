@@ -99,7 +99,7 @@ module _ (m : tie.At-match-came Inv-loop μ-loop) where
       (sym (next-is number left (timing-is ∙ ap ofTiming (w .1 .given .1)) (none _ (sym (w .3 .ensures) ∙ w .4 .left))
       (points-are (points .items) (points .len) (at .pointed) number (simp length-map at (start .good .1 .1 .0 .1 .1 .1 .1 .1 .0 .1 .1 .1 .0 .1 .1 .0 .1 .0 .1)) _ _ (w .6 .result) (w .8 .result) (w .11 .ensures) (w .6 .ensures) (w .8 .ensures))
       (sym (w .10 .ensures ∙ own-is held number (entries .items) (entries .len) 3 (at .entered) (simp length-map at (start .good .1 .1 .0 .1 .1 .1 .1 .1 .1 .1 .0 .1 .1 .0 .1 .0 .1)) _))))
-      (w .12 .ensures _))))
+      (rw (start .pre .2) at (w .12 .ensures)))))
       (m .match .came)
 
 loop-again : tie.Need-loop-again Inv-loop μ-loop

@@ -19,13 +19,13 @@ add-turn-of : tie.Need-add-turn-of
 add-turn-of c = let m = c .before .before in omega (arith, two m, m .before .before .pre .pointed)
 
 returns : tie.Need-returns
-returns c σ =
+returns c =
     let b = c .before in
     let m = b .before .before in
     let s = m .before .before in
     let many = m .many .ensures in
     rw (c .turn-of .ensures)
-    (turned σ _ _ _ _ _ (some-points (s .args .ps) (omega arith) (ofDescriptor (s .args .d))) (slot-points σ _ _ _ _ (b .points-bytes .ensures σ))
+    (turned _ _ _ _ _ _ (some-points (s .args .ps) (omega arith) (ofDescriptor (s .args .d))) (slot-points _ _ _ _ _ (b .points-bytes .ensures _))
     (record { timed = omega arith; listed = omega arith; pointed = omega arith; entered = omega arith }))
 
 -- there are no points
@@ -33,19 +33,19 @@ none : (e : tie.Else1) → ofPoints (e .before .before .before .args .ps) ≡ []
 none e = none-left (ofPoints (e .before .before .before .args .ps)) (omega (arith, e .before .many .ensures))
 
 returns-2 : tie.Need-returns-2
-returns-2 c σ =
+returns-2 c =
     let k = c .before .before .before in
     let e = k .before .before in
     rw (c .turn-of2 .ensures)
-    (turned σ _ _ _ _ _ (λ i. first [] [] (none e i) (ofDescriptor (k .d .given .1 i))) (slot-descriptor σ _ _ _ _ (c .before .descriptor-bytes .ensures σ))
+    (turned _ _ _ _ _ _ (λ i. first [] [] (none e i) (ofDescriptor (k .d .given .1 i))) (slot-descriptor _ _ _ _ _ (c .before .descriptor-bytes .ensures))
     (record { timed = omega arith; listed = omega arith; pointed = omega arith; entered = omega arith }))
 
 returns-3 : tie.Need-returns-3
-returns-3 c σ =
+returns-3 c =
     let k = c .before .before in
     let e = k .before .before in
     rw (c .turn-of3 .ensures)
-    (turned σ _ _ _ _ _ (λ i. first [] [] (none e i) (ofDescriptor (k .enum-told .given .1 i))) (no-entry σ _ _ _ _ refl (c .before .points-bytes2 .ensures σ))
+    (turned _ _ _ _ _ _ (λ i. first [] [] (none e i) (ofDescriptor (k .enum-told .given .1 i))) (no-entry _ _ _ _ _ refl (c .before .points-bytes2 .ensures _))
     (record { timed = omega arith; listed = omega arith; pointed = omega arith; entered = omega arith }))
 
 pub other-turn-spec : {M : Type 1} → statement M

@@ -15,16 +15,18 @@ returns c =
     let input = image .before in
     let numbers = input .before in
     let maker = numbers .before in
-    let start = maker .before in
+    let structure = maker .before in
+    let start = structure .before in
+    let σ = structure .structure-of .ensures in
     let n = numbers .number-bytes .ensures in
     let k = color .color-bytes .ensures in
-    rw (c .all-fit .ensures, k .fits, k .bytes, n .fits, n .bytes)
+    rw (c .all-fit .ensures, k .fits, k .bytes, n .fits, n .bytes, σ)
     (writes-front (record {
       code = omega (arith, start .good .0);
       serial = omega (arith, start .good .0);
       maker = maker .maker-bytes .ensures;
-      input = input .input-byte .ensures;
-      image = image .image-bytes .ensures;
+      input = rw σ at (input .input-byte .ensures);
+      image = rw σ at (image .image-bytes .ensures);
       gamma = gamma .gamma-byte .ensures;
       features = features .features-byte .ensures;
       flags = flags .flag-bytes .ensures;
@@ -34,6 +36,7 @@ pub front-bytes-spec : {M : Type 1} → statement M
 front-bytes-spec =
     tie.close
     (tie.spec
+    (search needs)
     (search needs)
     (search needs)
     (search needs)
