@@ -1,6 +1,6 @@
 -- Laws: a slot of range limits, with its secondary timing.
 use Prim.Native.Nat.{ℕ, zero, suc, _+_, _-_, _*_, _/_, _%_, _<_, _≤_}
-use mathlib.Core.Path.{_≡_, refl, sym, ap, _∙_}
+use mathlib.Core.Path.{_≡_, refl, sym, ap, _∙_, subst}
 use mathlib.Core.Bool.{Bool, true, false, _||_, cond, not}
 use mathlib.Core.List.{List, _++_}
 use native.Mathlib.Omega.{arith}
@@ -18,12 +18,12 @@ use Rattle.standard_parts.specs.Structure.{since4}
 use Rattle.standard_parts.specs.Descriptors.{toMin, toMax, offsetsOf, limitsOf, secondaryOf, closingRefusal, rangeRefusal}
 use Rattle.standard_parts.specs.declared.Structure.{Structure}
 use Rattle.standard_slots.specs.Spans.{SoundSecond}
-use Rattle.standard_slots.specs.Said.{rangeIn, said}
+use Rattle.standard_slots.specs.Said.{limitsIn, rangeIn, said}
 use Rattle.write_leaf.specs.Bytes.{Bytes, digit, low}
 use Rattle.write_leaf.specs.Digits.{both-hold, two-hold, three-hold, four-hold}
 use Rattle.write_slots.specs.Words.{Secondary, none, gtf, other, range, bytesOf, secondary, words}
 use Rattle.write_slots.specs.Slot.{headed, offsetCode, offsetsByte, limitsBytes, secondaryBytes}
-use Rattle.write_slots.specs.Writes.{WritesDescriptor}
+use Rattle.write_slots.specs.Writes.{ReadsDescriptor, WritesDescriptor}
 use Rattle.write_slots.specs.Tests.{exact, counted, secondaryFits, endsFit, limitsFit, rangeFits}
 use Rattle.write_slots.specs.Runs.{pad-whole, pad-size}
 use Rattle.write_slots.specs.Tells.{tells}
@@ -97,7 +97,7 @@ ends-of σ (suc (suc (suc zero))) a b few ha hb old = record { upper = omega ari
 ends-of σ (suc (suc (suc (suc code)))) a b few ha hb old = absurd (omega arith)
 
 -- no code that they are read with is lower than the one that they are written with
-pub lowest : (code a b : ℕ) → code < 4 → a < 256 → b < 256 → offsetCode (a + toMin code) (b + toMax code) ≤ code
+lowest : (code a b : ℕ) → code < 4 → a < 256 → b < 256 → offsetCode (a + toMin code) (b + toMax code) ≤ code
 lowest zero a b few ha hb = rw (lt-leb 256 (a + 0) (omega arith), lt-leb 256 (b + 0) (omega arith)) (omega arith)
 lowest (suc zero) a b few ha hb = rw (lt-leb 256 (a + 0) (omega arith), lt-leb 256 (b + 0) (omega arith)) (omega arith)
 lowest (suc (suc zero)) a b few ha hb = rw (lt-leb 256 (a + 0) (omega arith)) (go (leb 256 (b + 255)))
@@ -237,6 +237,40 @@ module _ (lent t : List ℕ) (size : length t ≡ 18) (b : Bytes t) where
   range-fits σ l s h e =
       let l-is : limitsOf (offsetsOf σ (t ! 4)) (t ! 5) (t ! 6) (t ! 7) (t ! 8) (t ! 9) ≡ l = cc in
       rw (secondary-fits s h (cc), limits-fit σ l (t ! 4) (t ! 5) (t ! 6) (t ! 7) (t ! 8) (t ! 9) (b 5) (b 6) (b 7) (b 8) (b 9) l-is)
+
+-- ---- the offsets
+
+offsets-under : (σ : Structure) (b : ℕ) → (digits (offsetsOf σ b) 0 2 ≤ digits b 0 2) × (digits (offsetsOf σ b) 2 2 ≤ digits b 2 2)
+offsets-under σ b = go (since4 σ)
+  where
+    go : (z : Bool) → (digits (cond z b 0) 0 2 ≤ digits b 0 2) × (digits (cond z b 0) 2 2 ≤ digits b 2 2)
+    go true = omega arith
+    go false = omega arith
+
+-- any bytes t that are read as these limits
+module _ (σ : Structure) (lent t : List ℕ) (l : Limits) (s : SecondaryTiming) (b : Bytes t) (r : ReadsDescriptor σ lent t (Descriptor.Range l s)) where
+  limits-are : limitsIn σ t ≡ l
+  unfolding rangeIn
+  limits-are = let e = tells t (r .1 .size) b σ (range l (secondary lent s)) (r .1 .shown) in cc
+
+  -- have no lower codes than those that are written
+  pub lowest-codes : (digits (offsetsByte l) 0 2 ≤ digits (t ! 4) 0 2) × (digits (offsetsByte l) 2 2 ≤ digits (t ! 4) 2 2)
+  unfolding limitsOf
+  lowest-codes =
+      let o = offsetsOf σ (t ! 4) in
+      let least : (t ! 7 + toMin (digits o 2 2)) * 1000 / 1000 ≡ t ! 7 + toMin (digits o 2 2) = omega arith in
+      let most : (t ! 8 + toMax (digits o 2 2)) * 1000 / 1000 ≡ t ! 8 + toMax (digits o 2 2) = omega arith in
+      let v = subst (λ (k : Limits). offsetCode (k .vmin) (k .vmax) ≤ digits o 0 2) limits-are (lowest (digits o 0 2) (t ! 5) (t ! 6) (omega arith) (b 5) (b 6)) in
+      let h = subst (λ (k : Limits). offsetCode (k .hmin / 1000) (k .hmax / 1000) ≤ digits o 2 2) limits-are
+      (rw (least, most) (lowest (digits o 2 2) (t ! 7) (t ! 8) (omega arith) (b 7) (b 8))) in
+      omega (arith, v, h, code-under (l .vmin) (l .vmax), code-under (l .hmin / 1000) (l .hmax / 1000), offsets-under σ (t ! 4))
+
+  -- below revision 4 no code is written
+  pub no-codes : since4 σ ≡ false → offsetsByte l ≡ 0
+  no-codes old =
+      let p = four-hold (endsFit σ (l .vmin) (l .vmax)) (endsFit σ (l .hmin / 1000) (l .hmax / 1000)) (eqb (l .hmin % 1000 + l .hmax % 1000) 0) (counted 10000000 (l .clock))
+      (limits-fit σ l (t ! 4) (t ! 5) (t ! 6) (t ! 7) (t ! 8) (t ! 9) (b 5) (b 6) (b 7) (b 8) (b 9) limits-are) in
+      omega (arith, ends-back (l .vmin) (l .vmax) σ (p .0) .2 old, ends-back (l .hmin / 1000) (l .hmax / 1000) σ (p .1) .2 old)
 
 -- ---- the slot
 
