@@ -2,7 +2,7 @@
 use Prim.Native.Nat.{ℕ, min}
 use mathlib.Core.List.{List, [], _∷_}
 use lib.ListN.{take}
-use Rattle.page.specs.Words.{text, newline, field32, field8, flag, float, flat, each}
+use Rattle.page.specs.Words.{text, newline, field32, flag, float, flat, each}
 use Rattle.shared_lines.specs.Lines.{axes, borderToStereo, polarity, textLine, raw, rawLine, limits}
 use Rattle.crate_record.specs.declared.SyncLine.the-variants.{RGB, Green, Digital}
 use Rattle.crate_record.specs.declared.SyncType.{SyncType}
@@ -45,7 +45,7 @@ secondary s (Secondary.Other kind d) = flat (text " other" ∷ raw s kind d ∷ 
 
 unfoldable pub rangeLine : List ℕ → Limits → SecondaryTiming → List ℕ
 rangeLine s l t =
-    flat (text "range" ∷ field8 (l .vmin) ∷ field8 (l .vmax) ∷ limits (l .hmin) (l .hmax) (l .clock) ∷ secondary s t ∷ newline ∷ [])
+    flat (limits (l .vmin) (l .vmax) (l .hmin) (l .hmax) (l .clock) ∷ secondary s t ∷ newline ∷ [])
 
 unfoldable pub descriptorLine : List ℕ → MonitorDescriptor → List ℕ
 descriptorLine s (SerialNumber d) = textLine (text "serial") d

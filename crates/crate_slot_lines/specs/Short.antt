@@ -4,7 +4,7 @@ use mathlib.Core.List.{List}
 use native.Mathlib.Omega.{arith}
 use lib.ListN.{length, length-append}
 use Rattle.page.specs.Words.{text, flat}
-use Rattle.page.specs.Short.{field32-length, field8-length, flag-length, float-length, first-length}
+use Rattle.page.specs.Short.{field32-length, flag-length, float-length, first-length}
 use Rattle.shared_lines.specs.Short.{axes-length, border-length, polarity-length, text-length, raw-length, run-length, limits-length}
 use Rattle.crate_record.specs.declared.SyncLine.the-variants.{RGB, Green, Digital}
 use Rattle.crate_record.specs.declared.SyncType.{SyncType}
@@ -55,7 +55,7 @@ range-length : (s : List ℕ) (l : Limits) (t : SecondaryTiming) → length (ran
 unfolding rangeLine flat
 range-length s l t =
     simp length-append
-    (omega (arith, field8-length (l .vmin), field8-length (l .vmax), limits-length (l .hmin) (l .hmax) (l .clock), secondary-length s t))
+    (omega (arith, limits-length (l .vmin) (l .vmax) (l .hmin) (l .hmax) (l .clock), secondary-length s t))
 
 descriptor-length : (s : List ℕ) (t : MonitorDescriptor) → length (descriptorLine s t) ≤ 98
 unfolding descriptorLine flat

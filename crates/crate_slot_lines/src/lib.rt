@@ -98,10 +98,7 @@ fn secondary(out: &mut [u8; 4096], at: usize, s: &[u8], t: SecondaryTiming) -> u
 fn range_line(out: &mut [u8; 4096], at: usize, s: &[u8], l: Limits, t: SecondaryTiming) -> usize
     ensures { λ r. ⌜ page (now (out .exit)) r ≡ page (now (out .entry)) at ▷ lines.rangeLine (now (s .entry)) l t ⌝ }
 {
-    let mut n = page::bytes(out, at, b"range");
-    n = page::field8(out, n, l.vmin);
-    n = page::field8(out, n, l.vmax);
-    n = shared_lines::limits(out, n, l.hmin, l.hmax, l.clock);
+    let mut n = shared_lines::limits(out, at, l.vmin, l.vmax, l.hmin, l.hmax, l.clock);
     n = secondary(out, n, s, t);
     page::newline(out, n)
 }

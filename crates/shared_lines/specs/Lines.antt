@@ -90,9 +90,9 @@ rawFields word s tag d = flat (word ∷ raw s tag d ∷ [])
 unfoldable pub rawLine : List ℕ → List ℕ → ℕ → Span → List ℕ
 rawLine word s tag d = flat (rawFields word s tag d ∷ newline ∷ [])
 
--- the numbers of a range behind the vertical rates
-unfoldable pub limits : ℕ → ℕ → ℕ → List ℕ
-limits hmin hmax clock = flat (field32 hmin ∷ field32 hmax ∷ field32 clock ∷ [])
+-- the five numbers of a range, in the crate's listing
+unfoldable pub limits : ℕ → ℕ → ℕ → ℕ → ℕ → List ℕ
+limits vmin vmax hmin hmax clock = flat (text "range" ∷ field8 vmin ∷ field8 vmax ∷ field32 hmin ∷ field32 hmax ∷ field32 clock ∷ [])
 
 -- ---- the end
 

@@ -105,9 +105,11 @@ pub run-length : (word s : List ℕ) (tag : ℕ) (d : Span) → length (rawLine 
 unfolding rawLine flat
 run-length word s tag d = simp length-append (omega (arith, run-fields-length word s tag d))
 
-pub limits-length : (hmin hmax clock : ℕ) → length (limits hmin hmax clock) ≤ 33
+pub limits-length : (vmin vmax hmin hmax clock : ℕ) → length (limits vmin vmax hmin hmax clock) ≤ 46
 unfolding limits flat
-limits-length hmin hmax clock = simp length-append (omega (arith, field32-length hmin, field32-length hmax, field32-length clock))
+limits-length vmin vmax hmin hmax clock =
+    simp length-append
+    (omega (arith, field8-length vmin, field8-length vmax, field32-length hmin, field32-length hmax, field32-length clock))
 
 pub extensions-length : (n : ℕ) → length (extensionsLine n) ≤ 15
 unfolding extensionsLine flat

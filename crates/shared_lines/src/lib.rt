@@ -214,11 +214,22 @@ pub fn raw_line(out: &mut [u8; 4096], at: usize, word: &[u8], s: &[u8], tag: u8,
     page::newline(out, n)
 }
 
-// The numbers of a range behind the vertical rates.
-pub fn limits(out: &mut [u8; 4096], at: usize, hmin: u32, hmax: u32, clock: u32) -> usize
-    ensures { λ r. ⌜ page (now (out .exit)) r ≡ page (now (out .entry)) at ▷ lines.limits hmin hmax clock ⌝ }
+// The five numbers of a range, as the crate's listing has them; the standard reading's rates go up to 510.
+pub fn limits(
+    out: &mut [u8; 4096],
+    at: usize,
+    vmin: u8,
+    vmax: u8,
+    hmin: u32,
+    hmax: u32,
+    clock: u32,
+) -> usize
+    ensures { λ r. ⌜ page (now (out .exit)) r ≡ page (now (out .entry)) at ▷ lines.limits vmin vmax hmin hmax clock ⌝ }
 {
-    let mut n = page::field32(out, at, hmin);
+    let mut n = page::bytes(out, at, b"range");
+    n = page::field8(out, n, vmin);
+    n = page::field8(out, n, vmax);
+    n = page::field32(out, n, hmin);
     n = page::field32(out, n, hmax);
     page::field32(out, n, clock)
 }

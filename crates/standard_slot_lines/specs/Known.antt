@@ -10,7 +10,7 @@ use Rattle.standard_record.specs.declared.SyncLine.the-variants.{RGB}
 use Rattle.standard_record.specs.declared.Sync.the-variants.{BipolarAnalogComposite, DigitalComposite, DigitalSeparate}
 use Rattle.standard_record.specs.declared.SecondaryTiming.the-variants.{GTF}
 use Rattle.standard_record.specs.declared.Descriptor.the-variants.{Range}
-use Rattle.shared_lines.specs.Lines.{axes, borderToStereo, polarity, limits}
+use Rattle.shared_lines.specs.Lines.{axes, borderToStereo, polarity}
 use Rattle.standard_slot_lines.specs.Lines.{sync, timingFields, detailedLine, secondary, rangeFields, descriptorFields, heldLine}
 
 detailed : detailedLine (record {
@@ -41,5 +41,5 @@ range : heldLine [] (record {
   descriptor = Range (record { vmin = 50; vmax = 510; hmin = 30000; hmax = 510000; clock = 130000000 }) (GTF 80000 80 600 128 40);
   slot = 4;
 }) ≡ text "range 50 510 30000 510000 130000000 gtf 80000 80 600 128 40 4\n"
-unfolding heldLine descriptorFields rangeFields limits secondary flat field8 field16 field32 decimalIn
+unfolding heldLine descriptorFields rangeFields secondary flat field8 field16 field32 decimalIn
 range = refl

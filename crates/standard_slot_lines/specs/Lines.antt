@@ -3,7 +3,7 @@ use Prim.Native.Nat.{ℕ, min}
 use mathlib.Core.List.{List, [], _∷_}
 use lib.ListN.{take}
 use Rattle.page.specs.Words.{text, newline, field32, field16, field8, flag, flat, each}
-use Rattle.shared_lines.specs.Lines.{axes, borderToStereo, polarity, textFields, raw, rawFields, limits}
+use Rattle.shared_lines.specs.Lines.{axes, borderToStereo, polarity, textFields, raw, rawFields}
 use Rattle.standard_record.specs.declared.SyncLine.{SyncLine}
 use Rattle.standard_record.specs.declared.SyncLine.the-variants.{Green, RGB}
 use Rattle.standard_record.specs.declared.Sync.{Sync}
@@ -54,8 +54,9 @@ secondary s (Secondary.GTF start c m k j) = flat (text " gtf" ∷ field32 start 
 secondary s (Secondary.Other kind d) = flat (text " other" ∷ raw s kind d ∷ [])
 
 unfoldable pub rangeFields : List ℕ → Limits → SecondaryTiming → List ℕ
-rangeFields s l t =
-    flat (text "range" ∷ field16 (l .vmin) ∷ field16 (l .vmax) ∷ limits (l .hmin) (l .hmax) (l .clock) ∷ secondary s t ∷ [])
+rangeFields s l t = flat (
+    text "range" ∷ field16 (l .vmin) ∷ field16 (l .vmax) ∷ field32 (l .hmin) ∷ field32 (l .hmax) ∷ field32 (l .clock) ∷
+    secondary s t ∷ [])
 
 unfoldable pub descriptorFields : List ℕ → Descriptor → List ℕ
 descriptorFields s (Serial d) = textFields (text "serial") d

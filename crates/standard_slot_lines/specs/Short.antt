@@ -5,7 +5,7 @@ use native.Mathlib.Omega.{arith}
 use lib.ListN.{length, length-append}
 use Rattle.page.specs.Words.{text, flat}
 use Rattle.page.specs.Short.{field32-length, field16-length, field8-length, flag-length, first-length}
-use Rattle.shared_lines.specs.Short.{axes-length, border-length, polarity-length, text-fields-length, raw-length, run-fields-length, limits-length}
+use Rattle.shared_lines.specs.Short.{axes-length, border-length, polarity-length, text-fields-length, raw-length, run-fields-length}
 use Rattle.standard_record.specs.declared.Sync.{Sync}
 use Rattle.standard_record.specs.declared.Sync.the-variants.{AnalogComposite, BipolarAnalogComposite, DigitalComposite, DigitalSeparate}
 use Rattle.standard_record.specs.declared.DetailedTiming.{DetailedTiming}
@@ -59,7 +59,7 @@ range-length : (s : List ℕ) (l : Limits) (t : SecondaryTiming) → length (ran
 unfolding rangeFields flat
 range-length s l t =
     simp length-append
-    (omega (arith, field16-length (l .vmin), field16-length (l .vmax), limits-length (l .hmin) (l .hmax) (l .clock), secondary-length s t))
+    (omega (arith, field16-length (l .vmin), field16-length (l .vmax), field32-length (l .hmin), field32-length (l .hmax), field32-length (l .clock), secondary-length s t))
 
 descriptor-length : (s : List ℕ) (t : Descriptor) → length (descriptorFields s t) ≤ 87
 unfolding descriptorFields flat

@@ -119,7 +119,9 @@ fn range_fields(out: &mut [u8; 4096], at: usize, s: &[u8], l: Limits, t: Seconda
     let mut n = page::bytes(out, at, b"range");
     n = page::field16(out, n, l.vmin);
     n = page::field16(out, n, l.vmax);
-    n = shared_lines::limits(out, n, l.hmin, l.hmax, l.clock);
+    n = page::field32(out, n, l.hmin);
+    n = page::field32(out, n, l.hmax);
+    n = page::field32(out, n, l.clock);
     secondary(out, n, s, t)
 }
 

@@ -1,12 +1,10 @@
 -- Worked cases, computed: records made of the specimen's front and the lists that stand here, and what is written of each.
-use Prim.Native.Nat.{ℕ, _+_, _*_}
-use mathlib.Core.Path.{_≡_, refl, sym, ap, _∙_}
-use mathlib.Core.Bool.{Bool, true, false, cond, true≢false}
+use Prim.Native.Nat.{ℕ}
+use mathlib.Core.Path.{refl}
+use mathlib.Core.Bool.{true, false}
 use mathlib.Core.List.{List, [], _∷_}
 use native.Mathlib.Omega.{arith}
-use lib.Dec.{eqb, ltb}
 use lib.ListN.{length, replicate}
-use borrow.Author.Tests.{eqb-false, ltb-true}
 use Rattle.timing.specs.Axis.{pixels, lines, backPorch, acrossOf, downOf}
 use Rattle.timing.specs.declared.SyncPolarity.the-variants.{Positive}
 use Rattle.timing.specs.declared.StereoType.the-variants as Stereo
@@ -36,11 +34,8 @@ use Rattle.standard_record.specs.declared.Gamma.the-variants as Gamma
 use Rattle.standard_record.specs.declared.DisplayType.the-variants.{RGBColor}
 use Rattle.standard_record.specs.declared.Kind.{Kind}
 use Rattle.standard_record.specs.declared.Kind.the-variants.{Typed, Encodings}
-use Rattle.standard_record.specs.declared.Verdict.{Verdict}
-use Rattle.standard_record.specs.declared.Verdict.the-variants.{Accepted, Refused}
 use Rattle.standard_timing.specs.Timing.{timingIn}
 use Rattle.standard_parts.specs.Head.{inputOf, imageOf, gammaOf, featuresOf}
-use Rattle.standard_parts.specs.Text.{every}
 use Rattle.standard_parts.specs.Timings.{flagsOf, pairOf}
 use Rattle.standard_head.specs.Head.{productIn, displayIn, colorsIn}
 use Rattle.standard_verdict.specs.Verdict.{beforeSlots}
@@ -48,23 +43,19 @@ use Rattle.standard_slots.specs.Said.{said, pointAt, rangeIn}
 use Rattle.standard_parts.specs.Descriptors.{limitsOf, secondaryOf, closingRefusal, rangeRefusal}
 use Rattle.standard_parts.specs.Color.{pointOf}
 use Rattle.write_parts.specs.Point.{pointBytes}
-use Rattle.standard_reading.specs.Slots.{judged, verdictOf}
-use Rattle.standard_reading.specs.Block.{flagsIn, plain, recordOf, standardOf}
-use Rattle.standard_reading.specs.Judged.{end-is-verdict}
-use Rattle.write_leaf.specs.Again.{cons-bytes}
-use Rattle.write_leaf.specs.Bytes.{Bytes}
+use Rattle.standard_reading.specs.Slots.{judged}
+use Rattle.standard_reading.specs.Block.{flagsIn, recordOf, standardOf}
 use Rattle.write_timing.specs.Timing.{timingBytes}
 use Rattle.write_parts.specs.Text.{filled}
 use Rattle.write_pairs.specs.Pairs.{All}
-use Rattle.write_slots.specs.Words.{Words, serial, text, range, name, undefined, makerDefined}
+use Rattle.write_slots.specs.Words.{serial}
 use Rattle.write_slots.specs.Slot.{slotBytes}
 use Rattle.write_head.specs.Front.{frontBytes}
-use Rattle.write_block.specs.Shown.{Shown, shown}
-use Rattle.write_block.specs.Canonical.{body, blockOf}
-use Rattle.write_block.specs.Gives.{NoneGives, Written, wrong-length, no-block, written}
+use Rattle.write_block.specs.Canonical.{body}
+use Rattle.write_block.specs.Gives.{Written, wrong-length, no-block, written}
 use Rattle.write_block.specs.Given.{same}
-use Rattle.write_block.specs.Promises.{refused-if}
 use Rattle.demands.specs.Specimen.{specimen}
+use Rattle.write_cases.specs.Computed.{unlike, unread, porch, clock, ratio, letters, number, ends, weekNumber, inputNumber, sizeNumber, kindNumber, bytes-by}
 use Rattle.demands.specs.Panels.{ratioBlock, headBlock, fdSlot, limitsBlock, Head, old, new, rates}
 
 -- ---- the records
@@ -286,95 +277,6 @@ cases =
     ∷ refusal (headed (new 4) (ranged 2 (rates 50 75 30 511) ∷ [])) []
     ∷ refusal (headed (new 4) (ranged 2 (rates 256 254 30 80) ∷ [])) []
     ∷ []
-
--- ---- how a refusal is computed: from what is read of the canonical block
-
-module _ (r : StandardRecord) (lent : List ℕ) where
-  abbrev made : List ℕ
-  made = blockOf (shown lent (seen r))
-
-  -- a number of what it shows is another
-  unlike : (f : Shown → ℕ) → eqb (f (shown made (plain made))) (f (shown lent (seen r))) ≡ false → NoneGives r lent
-  unlike f e = refused-if r lent (λ g. eqb-false _ _ e (ap f (same made r lent g)))
-
-  -- it is refused
-  abbrev isAccepted : Verdict → Bool
-  isAccepted Accepted = true
-  isAccepted (Refused f) = false
-
-  unread : isAccepted (verdictOf made) ≡ false → NoneGives r lent
-  unread e = refused-if r lent (λ g. true≢false (sym (ap isAccepted (sym (end-is-verdict made) ∙ g .accepted)) ∙ e))
-
--- the front porch, and the clock, of the first timing
-abbrev porch : List HeldTiming → ℕ
-porch [] = 0
-porch (t ∷ ts) = t .timing .across .front .0
-
-abbrev clock : List HeldTiming → ℕ
-clock [] = 0
-clock (t ∷ ts) = t .timing .clock
-
--- the width of the first pair's ratio
-abbrev ratio : List HeldPair → ℕ
-ratio [] = 0
-ratio (p ∷ ps) = p .pair .ratio .width
-
--- the length of the first name, and the number of its slot
-abbrev letters : List (ℕ × Words) → ℕ
-letters [] = 0
-letters ((n, serial t) ∷ ds) = 0
-letters ((n, text t) ∷ ds) = 0
-letters ((n, range l s) ∷ ds) = 0
-letters ((n, name t) ∷ ds) = length t
-letters ((n, undefined tag t) ∷ ds) = 0
-letters ((n, makerDefined tag t) ∷ ds) = 0
-
-abbrev number : List (ℕ × Words) → ℕ
-number [] = 0
-number (d ∷ ds) = d .0
-
--- the upper ends of the first range, and its lower ones: one number
-abbrev ends : List (ℕ × Words) → ℕ
-ends [] = 0
-ends ((n, serial t) ∷ ds) = 0
-ends ((n, text t) ∷ ds) = 0
-ends ((n, range l s) ∷ ds) = l .vmin + l .vmax + l .hmin + l .hmax
-ends ((n, name t) ∷ ds) = 0
-ends ((n, undefined tag t) ∷ ds) = 0
-ends ((n, makerDefined tag t) ∷ ds) = 0
-
--- a number for each week, input, size and kind
-abbrev weekNumber : Week → ℕ
-weekNumber (Made w) = w
-weekNumber ModelYear = 256
-
-abbrev depthNumber : Depth → ℕ
-depthNumber Depth.Undefined = 0
-depthNumber (Depth.Bits n) = n
-depthNumber Depth.Reserved = 1
-
-abbrev inputNumber : VideoInput → ℕ
-inputNumber (Analog level setup sync) = 1
-inputNumber (Digital dfp) = 2
-inputNumber (Interface d code) = 3 + depthNumber d + 256 * code
-
-abbrev sizeNumber : ImageSize → ℕ
-sizeNumber Image.None = 0
-sizeNumber (Image.Some z) = 1
-sizeNumber (Image.Ratio r) = r .width + 65536 * r .height
-
-abbrev kindNumber : Kind → ℕ
-kindNumber (Typed t) = 0
-kindNumber (Encodings a b) = 1
-
--- bytes, by a test of each
-bytes-by : (s : List ℕ) → every (λ b. ltb b 256) s ≡ true → Bytes s
-bytes-by [] h = λ i. omega arith
-bytes-by (x ∷ s) h = go (ltb x 256) refl h (bytes-by s)
-  where
-    go : (z : Bool) → ltb x 256 ≡ z → cond z (every (λ b. ltb b 256) s) false ≡ true → (every (λ b. ltb b 256) s ≡ true → Bytes s) → Bytes (x ∷ s)
-    go true e h rest = cons-bytes x s (ltb-true x 256 e) (rest h)
-    go false e h rest = absurd (true≢false (sym h))
 
 -- ---- what is written of each
 

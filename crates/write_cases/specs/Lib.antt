@@ -1,2 +1,3 @@
 -- Worked cases of the writer.
+pub mod Computed
 pub mod Cases

@@ -34,7 +34,8 @@ use Rattle.write_slots.specs.Runs.{pad-bytes}
 use Rattle.write_slots.specs.Tells.{Tells, tells}
 use Rattle.write_slots.specs.Points.{ReadIn, points-read, writes-none, writes-one, writes-two}
 use Rattle.write_slots.specs.Descriptors.{writes-span, writes-serial, writes-text, writes-name, writes-undefined, writes-maker}
-use Rattle.write_slots.specs.Ranges.{code-under, second, writes-range}
+use Rattle.write_slots.specs.Limits.{code-under}
+use Rattle.write_slots.specs.Ranges.{second, writes-range}
 
 -- ---- bytes behind a tag
 

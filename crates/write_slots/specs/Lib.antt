@@ -9,6 +9,7 @@ pub mod Runs
 pub mod Tells
 pub mod Points
 pub mod Descriptors
+pub mod Limits
 pub mod Ranges
 pub mod Again
 pub mod Dropped

@@ -8,18 +8,9 @@ use Rattle.crate_slot_lines.proofs.range_line.Tie as tie
 returns : tie.Need-returns
 unfolding rangeLine
 returns c =
-    let c5 = c .before .before in
-    let c4 = c5 .before .before in
-    let c3 = c4 .before .before in
-    let c2 = c3 .before .before in
+    let c2 = c .before .before in
     let c1 = c2 .before .before in
-    line (
-    c1 .bytes .ensures so
-    c2 .field8 .ensures so
-    c3 .field82 .ensures so
-    c4 .limits .ensures so
-    c5 .secondary .ensures so
-    c .newline .ensures so done)
+    line (c1 .limits .ensures so c2 .secondary .ensures so c .newline .ensures so done)
 
 pub range-line-spec : {M : Type 1} → statement M
-range-line-spec = tie.close (tie.spec (search needs) (search needs) (search needs) (search needs) (search needs) (search needs) (search needs) returns)
+range-line-spec = tie.close (tie.spec (search needs) (search needs) (search needs) returns)

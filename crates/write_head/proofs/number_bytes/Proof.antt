@@ -1,5 +1,4 @@
 -- `write_head::number_bytes` meets its contract: the test by what `digit` ensures. Assumes nothing.
-use mathlib.Core.Path.{refl}
 use borrow.Author.Needs.{needs}
 use Rattle.write_head.proofs.number_bytes.Statement.{statement}
 use Rattle.write_head.proofs.number_bytes.Tie as tie
