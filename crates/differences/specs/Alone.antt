@@ -234,4 +234,4 @@ never-that-gamma v h e =
 pub specimen-is-unmarked : Block specimen × Unmarked specimen
 unfolding specimen marksIn
 specimen-is-unmarked =
-    (record { size = refl; bytes = all-bytes specimen refl }, record { active = refl; dummy = refl; index = refl; gamma = refl; ratio = refl; revision = refl })
+    (record { size = refl; bytes = all-bytes specimen refl }, record { clear = record { active = refl; dummy = refl; index = refl; gamma = refl; ratio = refl }; revision = refl })

@@ -14,8 +14,7 @@ use Rattle.crate_record.specs.Single.{chromaOf, coordinate}
 use Rattle.crate_record.specs.declared.Chromaticities.{Chromaticities as CrateChromaticities}
 use Rattle.crate_head.specs.Head.{header, makerOf, maker, date, product, version, inputOf, input, sizeOf, gammaFrom, dpmsOf, dpms, display, color, front}
 use Rattle.crate_head.specs.declared.Front.{Front}
-use Rattle.standard_parts.specs.Structure.{since4}
-use Rattle.standard_head.specs.Head.{structureIn, productIn, versionIn, displayIn, colorsIn}
+use Rattle.standard_head.specs.Head.{structureIn, productIn, versionIn, inputIn, displayIn, colorsIn}
 use Rattle.standard_verdict.specs.Verdict.{isHeader}
 use Rattle.differences.specs.Converted.{productFrom, displayFrom, colorsFrom}
 use Rattle.differences.specs.Unmarked.{Block}
@@ -59,7 +58,7 @@ module _ (s : List ℕ) where
   abbrev pub FrontRead : Front → List ℕ → ℕ → Type 0
   FrontRead f cs n = (isHeader s ≡ true) × (f ≡ frontFrom) × (cs ≡ drop 35 s) × (n ≡ 35)
 
-module _ (s : List ℕ) (block : Block s) (old : since4 (structureIn s) ≡ false) (F : ℕ → Type 0) (two : isHeader s ≡ false → F 2) where
+module _ (s : List ℕ) (block : Block s) (F : ℕ → Type 0) (two : isHeader s ≡ false → F 2) where
   header-is : isHeader s ≡ (eqb (longOf (s ! 0) (s ! 1) (s ! 2) (s ! 3)) 0xffffff00 && eqb (longOf (s ! 4) (s ! 5) (s ! 6) (s ! 7)) 0x00ffffff)
   header-is =
       let b : (k : ℕ) → s ! k < 256 = block .bytes in
@@ -77,10 +76,10 @@ module _ (s : List ℕ) (block : Block s) (old : since4 (structureIn s) ≡ fals
 
   display-agrees : record { input = inputOf (s ! 20); size = sizeOf (s ! 21) (s ! 22); gamma = gammaFrom (s ! 23); dpms = dpmsOf (s ! 24) } ≡ displayFrom (displayIn s)
   display-agrees = λ i. record {
-    input = input-agrees (structureIn s) old (s ! 20) i;
-    size = size-agrees (structureIn s) old (s ! 21) (s ! 22) (block .bytes 21) (block .bytes 22) i;
+    input = input-agrees (structureIn s) (s ! 20) i;
+    size = size-agrees (structureIn s) (s ! 21) (s ! 22) (block .bytes 21) (block .bytes 22) i;
     gamma = gamma-agrees (s ! 23) (block .bytes 23) i;
-    dpms = features-agree (structureIn s) old (s ! 20) (s ! 24) i;
+    dpms = features-agree (inputIn s) (s ! 24) i;
   }
 
   colors-agree : _≡_ {A = CrateChromaticities} (record {
@@ -108,7 +107,7 @@ module _ (s : List ℕ) (block : Block s) (old : since4 (structureIn s) ≡ fals
     maker = makerOf (s ! 8 + 256 * s ! 9);
     code = s ! 10 + 256 * s ! 11;
     serial = longOf (s ! 12) (s ! 13) (s ! 14) (s ! 15);
-    date = record { week = week-agrees (structureIn s) old (s ! 16) i; year = s ! 17 + 1990 };
+    date = record { week = week-agrees (structureIn s) (s ! 16) i; year = s ! 17 + 1990 };
   }
 
   pub front-along : Along (FrontRead s) F front s 0

@@ -1,14 +1,15 @@
 -- One slot, kind by kind: without a mark the crate reading takes its 18 bytes, and what it lists is what the standard slot lists, converted.
 -- b0 to b17 are its bytes, `rest` what follows, `at` its place. F is to hold of the number of each refusal: the standard slot is refused with the same
 -- number, but for a text that is filled up with something else than spaces.
-use Prim.Native.Nat.{ℕ, zero, suc, _+_, _*_}
+use Prim.Native.Nat.{ℕ, zero, suc, _+_, _*_, _<_}
 use mathlib.Core.Path.{_≡_, refl, sym, ap, _∙_}
 use mathlib.Core.Bool.{Bool, true, false, cond, false≢true, not}
 use mathlib.Core.List.{List, [], _∷_, _++_, map, map-append}
 use native.Mathlib.Omega.{arith}
-use lib.Dec.{eqb, ltb}
+use lib.Dec.{eqb, leb, ltb}
 use lib.ListN.{drop}
-use borrow.Author.Tests.{ne-eqb}
+use borrow.Author.Tests.{ne-eqb, leb-false}
+use Rattle.bits.specs.Fields.{digits}
 use Rattle.steps.specs.Steps.{done, _>>=_}
 use Rattle.steps.specs.Leaves.{byte, word}
 use Rattle.steps.specs.declared.Span.{Span}
@@ -44,7 +45,7 @@ use Rattle.write_leaf.specs.Bytes.{Bytes}
 use Rattle.write_leaf.specs.Again.{drop-bytes}
 use Rattle.marking.specs.Marks.{activeLowZero, tag10, indexZero, gammaFF, codesZero, pairsZero}
 use Rattle.differences.specs.Converted.{pointFrom, pairFrom, timingFrom, secondFrom, descriptorFrom, heldFrom}
-use Rattle.differences.specs.Unmarked.{otherFill}
+use Rattle.differences.specs.Unmarked.{offsetsAdd, otherFill}
 use Rattle.differences.specs.Along.{Along, along-map, along-then, along-if, along-ensured}
 use Rattle.differences.specs.Leaves.{through, limits-agree, point-agrees}
 use Rattle.differences.specs.Pairs.{nor, PairsRead, pairs-along}
@@ -58,15 +59,15 @@ plain ss ts ws ds = record { standards = ss; timings = ts; points = ws; descript
 abbrev pub plainFrom : Lists → slots.Plain
 plainFrom l = plain (map pairFrom (l .pairs)) (map timingFrom (l .timings)) (map pointFrom (l .points)) (map heldFrom (l .descriptors))
 
--- no mark in the slot t
-pub record Clean (σ : Structure) (t : List ℕ) : Type 0 where
+-- no mark in the slot t; and no offsets, where Still holds
+pub record Clean (Still : Type 0) (σ : Structure) (t : List ℕ) : Type 0 where
   pub bytes : Bytes t
-  pub old : since4 σ ≡ false
   pub active : activeLowZero t ≡ false
   pub dummy : tag10 t ≡ false
   pub index : indexZero t ≡ false
   pub gamma : gammaFF t ≡ false
   pub ratio : σ ≡ Structure.Below3 → pairsZero t ≡ false
+  pub still : Still → since4 σ ≡ true → offsetsAdd t ≡ false
 
 -- what the name of a tag says of its number b
 abbrev Known : ℕ → Tag → Type 0
@@ -74,27 +75,27 @@ Known b Tag.Dummy = eqb b 0x10 ≡ true
 Known b Tag.Pairs = eqb b 0xfa ≡ true
 Known b Tag.Points = eqb b 0xfb ≡ true
 Known b Tag.Name = eqb b 0xfc ≡ true
-Known b Tag.Range = Unit {0}
+Known b Tag.Range = eqb b 0xfd ≡ true
 Known b Tag.Text = (eqb b 0xfc ≡ false) × (eqb b 0xfe ≡ true)
 Known b Tag.Serial = (eqb b 0xfc ≡ false) × (eqb b 0xfe ≡ false) × (eqb b 0xff ≡ true)
 Known b Tag.Raw = Unit {0}
 
 known : (b : ℕ) → Known b (tagOf b)
 unfolding tagOf
-known b = go (eqb b 0x10) (eqb b 0xfa) (eqb b 0xfb) (eqb b 0xfc) (eqb b 0xfd) (eqb b 0xfe) (eqb b 0xff) refl refl refl refl refl refl
+known b = go (eqb b 0x10) (eqb b 0xfa) (eqb b 0xfb) (eqb b 0xfc) (eqb b 0xfd) (eqb b 0xfe) (eqb b 0xff) refl refl refl refl refl refl refl
   where
-    go : (ten fa fb fc fd fe ff : Bool) → eqb b 0x10 ≡ ten → eqb b 0xfa ≡ fa → eqb b 0xfb ≡ fb → eqb b 0xfc ≡ fc → eqb b 0xfe ≡ fe → eqb b 0xff ≡ ff
+    go : (ten fa fb fc fd fe ff : Bool) → eqb b 0x10 ≡ ten → eqb b 0xfa ≡ fa → eqb b 0xfb ≡ fb → eqb b 0xfc ≡ fc → eqb b 0xfd ≡ fd → eqb b 0xfe ≡ fe → eqb b 0xff ≡ ff
         → Known b (cond ten Tag.Dummy (cond fa Tag.Pairs (cond fb Tag.Points (cond fc Tag.Name (cond fd Tag.Range (cond fe Tag.Text (cond ff Tag.Serial Tag.Raw)))))))
-    go true fa fb fc fd fe ff e f g h i j = e
-    go false true fb fc fd fe ff e f g h i j = f
-    go false false true fc fd fe ff e f g h i j = g
-    go false false false true fd fe ff e f g h i j = h
-    go false false false false true fe ff e f g h i j = tt
-    go false false false false false true ff e f g h i j = (h, i)
-    go false false false false false false true e f g h i j = (h, i, j)
-    go false false false false false false false e f g h i j = tt
+    go true fa fb fc fd fe ff e f g h d i j = e
+    go false true fb fc fd fe ff e f g h d i j = f
+    go false false true fc fd fe ff e f g h d i j = g
+    go false false false true fd fe ff e f g h d i j = h
+    go false false false false true fe ff e f g h d i j = d
+    go false false false false false true ff e f g h d i j = (h, i)
+    go false false false false false false true e f g h d i j = (h, i, j)
+    go false false false false false false false e f g h d i j = tt
 
-module _ (σ : Structure) (F : ℕ → Type 0) (b0 b1 b2 b3 b4 b5 b6 b7 b8 b9 b10 b11 b12 b13 b14 b15 b16 b17 : ℕ) (rest : List ℕ) (at : ℕ) where
+module _ (Still : Type 0) (σ : Structure) (F : ℕ → Type 0) (b0 b1 b2 b3 b4 b5 b6 b7 b8 b9 b10 b11 b12 b13 b14 b15 b16 b17 : ℕ) (rest : List ℕ) (at : ℕ) where
   abbrev pub slot : List ℕ
   slot = b0 ∷ b1 ∷ b2 ∷ b3 ∷ b4 ∷ b5 ∷ b6 ∷ b7 ∷ b8 ∷ b9 ∷ b10 ∷ b11 ∷ b12 ∷ b13 ∷ b14 ∷ b15 ∷ b16 ∷ b17 ∷ []
 
@@ -103,9 +104,9 @@ module _ (σ : Structure) (F : ℕ → Type 0) (b0 b1 b2 b3 b4 b5 b6 b7 b8 b9 b1
   abbrev here : ℕ
   here = at + 1 + 1 + 1 + 1 + 1
 
-  -- the standard slot says y, the crate's x
+  -- the standard slot says y, the crate's x, which lists the same where Still holds
   abbrev pub Told : Said → slots.Said → List ℕ → ℕ → Type 0
-  Told y x cs n = (judge y at ≡ Accepted) × (slots.lists x ≡ plainFrom (lists y)) × (cs ≡ rest) × (n ≡ at + 18)
+  Told y x cs n = (judge y at ≡ Accepted) × (Still → slots.lists x ≡ plainFrom (lists y)) × (cs ≡ rest) × (n ≡ at + 18)
 
   -- fa
   six-along : (σ ≡ Structure.Below3 → codesZero slot 5 6 ≡ false) → ((n : ℕ) → byTag σ Tag.Pairs slot at ≡ refusal n → F n)
@@ -115,7 +116,7 @@ module _ (σ : Structure) (F : ℕ → Type 0) (b0 b1 b2 b3 b4 b5 b6 b7 b8 b9 b1
       (along-map (PairsRead σ (slot ++ rest) 5 6 here) F _ (pairs 6) (drop 5 slot ++ rest) here
       (λ xs cs m r. rw (r .1)
       (closing-then F _ (λ _. done (slots.standards xs)) 0 b17 [] rest m refl (λ k. omega arith) (λ e. refused 4 (rw e)) (λ e. refused 5 (rw e))
-      (λ k e q. (rw q, rw q (ap (λ ys. plain ys [] [] []) (r .0)), refl, omega (arith, e, r .2)))))
+      (λ k e q. (rw q, (λ _. rw q (ap (λ ys. plain ys [] [] []) (r .0))), refl, omega (arith, e, r .2)))))
       (pairs-along σ (slot ++ rest) F 6 5 here (omega arith) ratio))
 
   -- fb
@@ -134,7 +135,7 @@ module _ (σ : Structure) (F : ℕ → Type 0) (b0 b1 b2 b3 b4 b5 b6 b7 b8 b9 b1
       rw (first, second, Along)
       (along-then _ F (crate.closing 1 >>= (λ _. done (Slot.White (Two p q)))) slots.saidBy (drop 15 slot ++ rest) _
       (closing-then F _ (λ _. done (Slot.White (Two p q))) 1 b15 (b16 ∷ b17 ∷ []) rest _ refl (drop-bytes 16 slot bytes) (λ e. refused 4 (rw e)) (λ e. refused 5 (rw e))
-      (λ k e q. (rw q, rw q (ap (λ ws. plain [] [] ws []) both), refl, omega (arith, e)))))
+      (λ k e q. (rw q, (λ _. rw q (ap (λ ws. plain [] [] ws []) both)), refl, omega (arith, e)))))
 
   -- fc, fe, ff
   string-along : (d : Span → Descriptor) → ((t : Span) → crate.stringOf b3 t ≡ descriptorFrom (d t))
@@ -148,7 +149,7 @@ module _ (σ : Structure) (F : ℕ → Type 0) (b0 b1 b2 b3 b4 b5 b6 b7 b8 b9 b1
       (λ t es n r.
       let start : here ≡ at + 5 = omega arith in
       let e : t ≡ textIn slot at = r .0 ∙ ap (λ (k : ℕ). record { start = k; len = textLength (drop 5 slot) }) start in
-      (rw (r .3), rw (r .3) (ap (λ u. plain [] [] [] (record { descriptor = u } ∷ [])) (same t ∙ ap (λ u. descriptorFrom (d u)) e)), r .1, omega (arith, r .2)))
+      (rw (r .3), (λ _. rw (r .3) (ap (λ u. plain [] [] [] (record { descriptor = u } ∷ [])) (same t ∙ ap (λ u. descriptorFrom (d u)) e))), r .1, omega (arith, r .2)))
       (text-along F (drop 5 slot) rest here refl (λ e. filled (rw e)))))
 
   -- the others
@@ -157,8 +158,8 @@ module _ (σ : Structure) (F : ℕ → Type 0) (b0 b1 b2 b3 b4 b5 b6 b7 b8 b9 b1
   raw-along =
       let start : here ≡ at + 5 = omega arith in (
         refl,
-        ap (λ (k : ℕ). plain [] [] [] (record { descriptor = crate.rawOf b3 (record { start = k; len = 13 }) } ∷ [])) start
-            ∙ ap (λ u. plain [] [] [] (record { descriptor = u } ∷ [])) (through descriptorFrom (ltb b3 0x10) refl refl),
+        (λ _. ap (λ (k : ℕ). plain [] [] [] (record { descriptor = crate.rawOf b3 (record { start = k; len = 13 }) } ∷ [])) start
+            ∙ ap (λ u. plain [] [] [] (record { descriptor = u } ∷ [])) (through descriptorFrom (ltb b3 0x10) refl refl)),
         refl,
         omega arith,
       )
@@ -187,16 +188,16 @@ module _ (σ : Structure) (F : ℕ → Type 0) (b0 b1 b2 b3 b4 b5 b6 b7 b8 b9 b1
       let start : there ≡ at + 11 = omega arith in
       (rw (e, f), rw (e, f) (ap (λ (k : ℕ). CrateSecond.Other b10 (record { start = k; len = 7 })) start), refl, omega arith)))
 
-  range-along : since4 σ ≡ false → Bytes slot → ((n : ℕ) → byTag σ Tag.Range slot at ≡ refusal n → F n)
+  range-along : (Still → since4 σ ≡ true → (digits b4 0 2 < 2) × (digits b4 2 2 < 2)) → Bytes slot → ((n : ℕ) → byTag σ Tag.Range slot at ≡ refusal n → F n)
       → Along (Told (byTag σ Tag.Range slot at)) F (crate.range >>= slots.saidBy) (drop 5 slot ++ rest) here
   unfolding crate.range crate.limitsOf byte rangeIn
-  range-along old bytes refused =
+  range-along few bytes refused =
       along-then _ F (crate.secondary b10 >>= (λ t. done (Slot.Described (MonitorDescriptor.RangeLimits (crate.limitsOf b5 b6 b7 b8 b9) t)))) slots.saidBy (drop 11 slot ++ rest) there
       (along-then _ F (crate.secondary b10) _ (drop 11 slot ++ rest) there
       (along-map SecondRead F _ (crate.secondary b10) (drop 11 slot ++ rest) there
       (λ t es n r. (
         rw (r .0),
-        rw (r .0) (λ i. plain [] [] [] (record { descriptor = MonitorDescriptor.RangeLimits (limits-agree σ old b4 b5 b6 b7 b8 b9 i) (r .1 i) } ∷ [])),
+        (λ q. rw (r .0) (λ i. plain [] [] [] (record { descriptor = MonitorDescriptor.RangeLimits (limits-agree σ b4 b5 b6 b7 b8 b9 (few q) i) (r .1 i) } ∷ []))),
         r .2,
         r .3,
       ))
@@ -204,7 +205,7 @@ module _ (σ : Structure) (F : ℕ → Type 0) (b0 b1 b2 b3 b4 b5 b6 b7 b8 b9 b1
 
   -- ---- the slot
 
-  by-tag : Clean σ slot → eqb (b0 + 256 * b1) 0 ≡ true → (tag : Tag) → Known b3 tag → ((n : ℕ) → byTag σ tag slot at ≡ refusal n → F n)
+  by-tag : Clean Still σ slot → eqb (b0 + 256 * b1) 0 ≡ true → (tag : Tag) → Known b3 tag → ((n : ℕ) → byTag σ tag slot at ≡ refusal n → F n)
       → (otherFill slot ≡ true → F 5)
       → Along (Told (byTag σ tag slot at)) F (crate.byTag b3 tag >>= slots.saidBy) (drop 5 slot ++ rest) here
   unfolding crate.stringOf
@@ -215,7 +216,10 @@ module _ (σ : Structure) (F : ℕ → Type 0) (b0 b1 b2 b3 b4 b5 b6 b7 b8 b9 b1
       let gamma = nor (eqb b9 0xff) (eqb b14 0xff) (rw (clock, k) at (c .gamma)) in
       white-along (c .bytes) (index .0) (index .1) (gamma .0) (gamma .1) refused
   by-tag c clock Tag.Name k refused filled = string-along Descriptor.Name (λ t. rw k) (λ e. filled (rw (clock, k) e))
-  by-tag c clock Tag.Range k refused filled = range-along (c .old) (c .bytes) refused
+  by-tag c clock Tag.Range k refused filled =
+      range-along (λ q new.
+      let none = nor (leb 2 (digits b4 0 2)) (leb 2 (digits b4 2 2)) (rw (clock, k) at (c .still q new)) in
+      (leb-false 2 (digits b4 0 2) (none .0), leb-false 2 (digits b4 2 2) (none .1))) (c .bytes) refused
   by-tag c clock Tag.Text k refused filled = string-along Descriptor.Text (λ t. rw (k .0, k .1)) (λ e. filled (rw (clock, k .0, k .1) e))
   by-tag c clock Tag.Serial k refused filled = string-along Descriptor.Serial (λ t. rw (k .0, k .1)) (λ e. filled (rw (clock, k .0, k .1, k .2) e))
   by-tag c clock Tag.Raw k refused filled = raw-along
@@ -226,7 +230,7 @@ module _ (σ : Structure) (F : ℕ → Type 0) (b0 b1 b2 b3 b4 b5 b6 b7 b8 b9 b1
   some-said (suc i) t = refl
 
   -- a slot i without a clock, and one with a clock
-  clockless-along : (i : ℕ) → Clean σ slot → eqb (b0 + 256 * b1) 0 ≡ true → ((n : ℕ) → said σ i slot at ≡ refusal n → F n) → (otherFill slot ≡ true → F 5)
+  clockless-along : (i : ℕ) → Clean Still σ slot → eqb (b0 + 256 * b1) 0 ≡ true → ((n : ℕ) → said σ i slot at ≡ refusal n → F n) → (otherFill slot ≡ true → F 5)
       → Along (Told (said σ i slot at)) F (detailed >>= saidAt i) (slot ++ rest) at
   unfolding detailed byte word said crate.descriptor crate.tagged
   clockless-along zero c clock refused filled = rw (clock, Along) (refused 3 (rw clock))
@@ -234,16 +238,16 @@ module _ (σ : Structure) (F : ℕ → Type 0) (b0 b1 b2 b3 b4 b5 b6 b7 b8 b9 b1
       let later : eqb (suc i) 0 ≡ false = ne-eqb (suc i) 0 (λ e. omega arith) in
       rw (clock, later, Along) (by-tag c clock (tagOf b3) (known b3) (λ n e. refused n (rw (clock, later) e)) filled)
 
-  clocked-along : (i : ℕ) → Clean σ slot → eqb (b0 + 256 * b1) 0 ≡ false → ((n : ℕ) → said σ i slot at ≡ refusal n → F n)
+  clocked-along : (i : ℕ) → Clean Still σ slot → eqb (b0 + 256 * b1) 0 ≡ false → ((n : ℕ) → said σ i slot at ≡ refusal n → F n)
       → Along (Told (said σ i slot at)) F (detailed >>= saidAt i) (slot ++ rest) at
   unfolding said
   clocked-along i c clock refused =
       along-then _ F detailed (saidAt i) (slot ++ rest) at
       (along-map (TimingRead F b0 b1 b2 b3 b4 b5 b6 b7 b8 b9 b10 b11 b12 b13 b14 b15 b16 b17 rest at) F _ detailed (slot ++ rest) at
-      (λ m cs n r. rw (r .2, some-said i (timingFrom (r .0))) (rw (clock, r .1), rw (clock, r .1), r .3, r .4))
+      (λ m cs n r. rw (r .2, some-said i (timingFrom (r .0))) (rw (clock, r .1), (λ _. rw (clock, r .1)), r .3, r .4))
       (timing-along F b0 b1 b2 b3 b4 b5 b6 b7 b8 b9 b10 b11 b12 b13 b14 b15 b16 b17 rest at clock (rw clock at (c .active)) (λ e. refused 6 (rw (clock, e)))))
 
-  pub slot-along : (i : ℕ) → Clean σ slot → ((n : ℕ) → said σ i slot at ≡ refusal n → F n) → (otherFill slot ≡ true → F 5)
+  pub slot-along : (i : ℕ) → Clean Still σ slot → ((n : ℕ) → said σ i slot at ≡ refusal n → F n) → (otherFill slot ≡ true → F 5)
       → Along (Told (said σ i slot at)) F (detailed >>= saidAt i) (slot ++ rest) at
   slot-along i c refused filled = go (eqb (b0 + 256 * b1) 0) refl
     where

@@ -1,5 +1,5 @@
 -- What both readings make of the same few bytes: the crate's is the standard one, converted.
-use Prim.Native.Nat.{ℕ, zero, suc, _+_, _*_, _<_}
+use Prim.Native.Nat.{ℕ, zero, suc, _+_, _*_, _/_, _%_, _^_, _<_}
 use mathlib.Core.Path.{_≡_, refl, sym, ap, _∙_}
 use mathlib.Core.Bool.{Bool, true, false, _&&_, _||_, not, cond}
 use mathlib.Core.List.{[], _∷_, map}
@@ -7,11 +7,12 @@ use native.Mathlib.Nat.{add-zero}
 use native.Mathlib.Omega.{arith}
 use lib.Dec.{eqb, ltb}
 use lib.Ieee.{binary32, ofBits, ofInt, add, div}
-use borrow.Author.Tests.{le-ltb, ne-eqb}
+use borrow.Author.Tests.{eqb-true, lt-ltb, le-ltb, ne-eqb}
 use Rattle.bits.specs.Fields.{digits, bit, byCode}
 use Rattle.crate_record.specs.Single.{f10, f100, whole, coordinate, ratioOf as crateRatioOf}
 use Rattle.crate_record.specs.declared.ImageSize.{ImageSize as CrateSize}
 use Rattle.crate_record.specs.declared.MaxSize.{MaxSize}
+use Rattle.crate_record.specs.declared.VideoInput.{VideoInput as CrateInput}
 use Rattle.crate_record.specs.declared.Gamma.{Gamma as CrateGamma}
 use Rattle.crate_head.specs.Head.{inputOf as crateInputOf, sizeOf, gammaFrom as crateGammaOf, kindOf, dpmsOf}
 use Rattle.crate_timings.specs.Pairs.{standardTimingOf, pairOf as cratePairOf, listed}
@@ -22,11 +23,13 @@ use Rattle.crate_detailed.specs.Detailed.{lineOf as crateLineOf, syncBy as crat
 use Rattle.crate_descriptors.specs.Descriptors.{pointOf as cratePointOf, limitsOf as crateLimitsOf}
 use Rattle.timing.specs.Rest.{polarityOf}
 use Rattle.timing.specs.declared.Size.{Size}
+use Rattle.standard_record.specs.declared.Week.{Week}
+use Rattle.standard_record.specs.declared.VideoInput.{VideoInput}
 use Rattle.standard_record.specs.declared.ImageSize.{ImageSize}
 use Rattle.standard_record.specs.declared.Sync.{Sync}
 use Rattle.standard_timing.specs.Timing.{lineOf, syncBy}
 use Rattle.standard_parts.specs.Structure.{since4}
-use Rattle.standard_parts.specs.Head.{weekOf, inputOf, imageOf, gammaOf, typeOf, tellsInterface, featuresOf}
+use Rattle.standard_parts.specs.Head.{weekOf, depthOf, inputOf, imageOf, gammaOf, typeOf, tellsInterface, kindOf as standardKindOf, featuresOf}
 use Rattle.standard_parts.specs.Descriptors.{offsetsOf, limitsOf}
 use Rattle.standard_parts.specs.Color.{pointOf}
 use Rattle.standard_parts.specs.Timings.{ratio, ratioOf, pairOf}
@@ -34,7 +37,7 @@ use Rattle.standard_parts.specs.declared.Structure.{Structure}
 use Rattle.standard_parts.specs.declared.Pair.{Pair}
 use Rattle.standard_slots.specs.Said.{ofPair, ofPoint}
 use Rattle.marking.specs.Marks.{codeZero}
-use Rattle.differences.specs.Converted.{over, weekFrom, inputFrom, sizeFrom, gammaFrom, typeFrom, featuresFrom, ratioFrom, pairFrom, pointFrom, lineFrom, syncFrom, limitsFrom}
+use Rattle.differences.specs.Converted.{over, weekFrom, inputFrom, sizeFrom, gammaFrom, typeFrom, kindFrom, featuresFrom, ratioFrom, pairFrom, pointFrom, lineFrom, syncFrom, limitsFrom}
 use Rattle.differences.specs.Floats.{sum-whole, quotient-whole}
 
 -- by one test, and by a code
@@ -48,26 +51,25 @@ through-code f n p q r s = through f (eqb n 0) p (through f (eqb n 1) q (through
 
 -- ---- the head
 
-neither : (t : Bool) → cond t false false ≡ false
-neither true = refl
-neither false = refl
+pub week-agrees : (σ : Structure) (b : ℕ) → b ≡ weekFrom (weekOf σ b)
+week-agrees σ b = go (since4 σ) (eqb b 0xff) refl
+  where
+    go : (x y : Bool) → eqb b 0xff ≡ y → b ≡ weekFrom (cond (x && y) Week.ModelYear (Week.Made b))
+    go true true e = eqb-true b 0xff e
+    go true false e = refl
+    go false y e = refl
 
--- below revision 4
-module _ (σ : Structure) (old : since4 σ ≡ false) where
-  pub week-agrees : (b : ℕ) → b ≡ weekFrom (weekOf σ b)
-  week-agrees b = rw old
+pub input-agrees : (σ : Structure) (b : ℕ) → crateInputOf b ≡ inputFrom (inputOf σ b)
+unfolding crateInputOf inputOf
+input-agrees σ b = through inputFrom (bit b 7) (digital (since4 σ)) refl
+  where
+    last : b / 2 ^ 0 % 2 ≡ digits b 0 4 / 2 ^ 0 % 2
+    last = omega arith
 
-  pub input-agrees : (b : ℕ) → crateInputOf b ≡ inputFrom (inputOf σ b)
-  unfolding crateInputOf inputOf
-  input-agrees b = rw old (through inputFrom (bit b 7) refl refl)
-
-  no-interface : (b : ℕ) → tellsInterface (inputOf σ b) ≡ false
-  unfolding inputOf
-  no-interface b = rw old (sym (through tellsInterface (bit b 7) refl refl) ∙ neither (bit b 7))
-
-  pub limits-agree : (b4 b5 b6 b7 b8 b9 : ℕ) → crateLimitsOf b5 b6 b7 b8 b9 ≡ limitsFrom (limitsOf (offsetsOf σ b4) b5 b6 b7 b8 b9)
-  unfolding crateLimitsOf limitsOf
-  limits-agree b4 b5 b6 b7 b8 b9 = rw old (simp add-zero)
+    digital : (t : Bool) → CrateInput.Digital (bit b 0)
+        ≡ inputFrom (cond t (VideoInput.Interface (depthOf (digits b 4 3)) (digits b 0 4)) (VideoInput.Digital (bit b 0)))
+    digital true = ap (λ (n : ℕ). CrateInput.Digital (eqb n 1)) last
+    digital false = refl
 
 -- the literals 10 and 100
 ten : f10 ≡ whole 10
@@ -82,9 +84,9 @@ hundred = refl
 cm-agrees : (v : ℕ) → v < 256 → whole v ≡ over (v * 10) f10
 cm-agrees v h = sym (quotient-whole v 10 (omega arith) (omega arith) (omega arith)) ∙ ap (over (v * 10)) (sym ten)
 
-pub size-agrees : (σ : Structure) → since4 σ ≡ false → (w h : ℕ) → w < 256 → h < 256 → sizeOf w h ≡ sizeFrom (imageOf σ w h)
+pub size-agrees : (σ : Structure) (w h : ℕ) → w < 256 → h < 256 → sizeOf w h ≡ sizeFrom (imageOf σ w h)
 unfolding sizeOf imageOf
-size-agrees σ old w h l m = rw old (go (eqb w 0) (eqb h 0))
+size-agrees σ w h l m = go (eqb w 0) (eqb h 0) (since4 σ)
   where
     stored : CrateSize
     stored = record { width = whole w; height = whole h }
@@ -92,12 +94,18 @@ size-agrees σ old w h l m = rw old (go (eqb w 0) (eqb h 0))
     mm : Size
     mm = record { width = w * 10; height = h * 10 }
 
-    go : (a b : Bool)
-        → cond (a || b) MaxSize.None (MaxSize.Some stored) ≡ sizeFrom (cond a (cond b ImageSize.None ImageSize.None) (cond b ImageSize.None (ImageSize.Some mm)))
-    go true true = refl
-    go true false = refl
-    go false true = refl
-    go false false = λ i. MaxSize.Some (record { width = cm-agrees w l i; height = cm-agrees h m i })
+    alone : ℕ → ℕ → Bool → ImageSize
+    alone w h z = cond z (ImageSize.Ratio (record { width = w; height = h })) ImageSize.None
+
+    go : (a b z : Bool)
+        → cond (a || b) MaxSize.None (MaxSize.Some stored)
+        ≡ sizeFrom (cond a (cond b ImageSize.None (alone 100 (h + 99) z)) (cond b (alone (w + 99) 100 z) (ImageSize.Some mm)))
+    go true true z = refl
+    go true false true = refl
+    go true false false = refl
+    go false true true = refl
+    go false true false = refl
+    go false false z = λ i. MaxSize.Some (record { width = cm-agrees w l i; height = cm-agrees h m i })
 
 -- a byte and 100, in hundredths
 pub hundredths-agree : (v : ℕ) → v < 256 → div binary32 (add binary32 (whole v) f100) f100 ≡ over (v + 100) f100
@@ -110,18 +118,26 @@ gamma-agrees v h = through gammaFrom (eqb v 0xff) refl (ap CrateGamma.Some (hund
 type-agrees : (n : ℕ) → kindOf n ≡ typeFrom (typeOf n)
 type-agrees n = through-code typeFrom n refl refl refl refl
 
-pub features-agree : (σ : Structure) → since4 σ ≡ false → (input b : ℕ) → dpmsOf b ≡ featuresFrom (featuresOf (inputOf σ input) b)
+-- encodings by their code
+kind-agrees : (encoded : Bool) (n : ℕ) → n < 4 → kindOf n ≡ kindFrom (standardKindOf encoded n)
+kind-agrees false n h = type-agrees n
+kind-agrees true zero h = refl
+kind-agrees true (suc zero) h = refl
+kind-agrees true (suc (suc zero)) h = refl
+kind-agrees true (suc (suc (suc zero))) h = refl
+kind-agrees true (suc (suc (suc (suc n)))) h = absurd (omega arith)
+
+pub features-agree : (input : VideoInput) (b : ℕ) → dpmsOf b ≡ featuresFrom (featuresOf input b)
 unfolding dpmsOf featuresOf
-features-agree σ old input b =
-    rw (no-interface σ old input) (λ i. record {
-      standby = bit b 7;
-      suspend = bit b 6;
-      lowpower = bit b 5;
-      kind = type-agrees (digits b 3 2) i;
-      srgb = bit b 2;
-      preferred = bit b 1;
-      gtf = bit b 0;
-    })
+features-agree input b = λ i. record {
+  standby = bit b 7;
+  suspend = bit b 6;
+  lowpower = bit b 5;
+  kind = kind-agrees (tellsInterface input) (digits b 3 2) (omega arith) i;
+  srgb = bit b 2;
+  preferred = bit b 1;
+  gtf = bit b 0;
+}
 
 -- ---- a pair
 
@@ -162,6 +178,21 @@ unfolding cratePointOf pointOf gammaOf
 point-agrees index low x y g used given h =
     rw (used, given)
     (λ i. record { index = index; x = coordinate x low 2; y = coordinate y low 0; gamma = hundredths-agree g h i } ∷ [])
+
+-- ---- range limits
+
+-- where the offsets add nothing
+pub limits-agree : (σ : Structure) (b4 b5 b6 b7 b8 b9 : ℕ) → (since4 σ ≡ true → (digits b4 0 2 < 2) × (digits b4 2 2 < 2))
+    → crateLimitsOf b5 b6 b7 b8 b9 ≡ limitsFrom (limitsOf (offsetsOf σ b4) b5 b6 b7 b8 b9)
+unfolding crateLimitsOf limitsOf
+limits-agree σ b4 b5 b6 b7 b8 b9 few = go (since4 σ) refl
+  where
+    go : (z : Bool) → since4 σ ≡ z → crateLimitsOf b5 b6 b7 b8 b9 ≡ limitsFrom (limitsOf (offsetsOf σ b4) b5 b6 b7 b8 b9)
+    go true e =
+        let v = few e .0 in
+        let h = few e .1 in
+        rw (e, lt-ltb (digits b4 0 2) 2 v, lt-ltb (digits b4 2 2) 2 h, ne-eqb (digits b4 0 2) 3 (λ k. omega arith), ne-eqb (digits b4 2 2) 3 (λ k. omega arith)) (simp add-zero)
+    go false e = rw e (simp add-zero)
 
 -- ---- the sync of a timing
 

@@ -1,4 +1,4 @@
--- The parts of a block without a mark, as the crate reading reads them; and the standard verdict on it.
+-- The parts of a block without a mark, but for the revision's, as the crate reading reads them; and the standard verdict on it.
 use Prim.Native.Nat.{ℕ, zero, suc, _+_, _*_, _<_}
 use mathlib.Core.Path.{_≡_, refl, sym, subst, _∙_}
 use mathlib.Core.Bool.{true, false}
@@ -31,11 +31,11 @@ use Rattle.standard_reading.specs.Slots.{saidIn, judged}
 use Rattle.standard_reading.specs.Block.{flagsIn, eightIn, plain}
 use Rattle.marking.specs.Marks.{inSlots}
 use Rattle.differences.specs.Converted.{pointFrom, pairFrom, timingFrom, heldFrom, converted}
-use Rattle.differences.specs.Unmarked.{Block, Unmarked, otherFill}
+use Rattle.differences.specs.Unmarked.{Block, Clear, NoOffsets, otherFill}
 use Rattle.differences.specs.Along.{Along, along-map, along-then, Came, along, spell}
 use Rattle.differences.specs.Pairs.{PairsRead, pairs-along}
 use Rattle.differences.specs.Heads.{frontFrom, FrontRead, front-along}
-use Rattle.differences.specs.Slots.{ratios, before-four, listed, Accepts, All, LaterRead, slots-along}
+use Rattle.differences.specs.Slots.{ratios, listed, Accepts, All, LaterRead, slots-along}
 
 -- ---- what four slots list
 
@@ -50,22 +50,26 @@ turned w f g (suc n) =
     ∙ (λ j. turned w f g n j ++ (map-map (λ b. f (w .entry b)) (w .wrap (n + 1)) (g n) ∙ (λ k. map (λ a. f (w .entry-is (n + 1) a k)) (g n))) j)
 
 module _ (s : List ℕ) where
-  together-is : (xs : List crate.Said) → All s 4 0 xs → crate.together xs ≡ record {
+  together-is : NoOffsets s → (xs : List crate.Said) → All s 4 0 xs → crate.together xs ≡ record {
     standards = gather (λ i. listed s i .standards) 4;
     timings = gather (λ i. listed s i .timings) 4;
     points = gather (λ i. listed s i .points) 4;
     descriptors = gather (λ i. listed s i .descriptors) 4;
   }
-  together-is [] a = absurd a
-  together-is (x ∷ []) a = absurd (a .1)
-  together-is (x ∷ y ∷ []) a = absurd (a .1 .1)
-  together-is (x ∷ y ∷ z ∷ []) a = absurd (a .1 .1 .1)
-  together-is (x ∷ y ∷ z ∷ w ∷ xs) a =
+  together-is still [] a = absurd a
+  together-is still (x ∷ []) a = absurd (a .1)
+  together-is still (x ∷ y ∷ []) a = absurd (a .1 .1)
+  together-is still (x ∷ y ∷ z ∷ []) a = absurd (a .1 .1 .1)
+  together-is still (x ∷ y ∷ z ∷ w ∷ xs) a =
+      let p = a .0 still in
+      let q = a .1 .0 still in
+      let r = a .1 .1 .0 still in
+      let t = a .1 .1 .1 .0 still in
       (λ j. record {
-        standards = a .0 j .standards ++ (a .1 .0 j .standards ++ (a .1 .1 .0 j .standards ++ (a .1 .1 .1 .0 j .standards ++ crate.together (a .1 .1 .1 .1 j) .standards)));
-        timings = a .0 j .timings ++ (a .1 .0 j .timings ++ (a .1 .1 .0 j .timings ++ (a .1 .1 .1 .0 j .timings ++ crate.together (a .1 .1 .1 .1 j) .timings)));
-        points = a .0 j .points ++ (a .1 .0 j .points ++ (a .1 .1 .0 j .points ++ (a .1 .1 .1 .0 j .points ++ crate.together (a .1 .1 .1 .1 j) .points)));
-        descriptors = a .0 j .descriptors ++ (a .1 .0 j .descriptors ++ (a .1 .1 .0 j .descriptors ++ (a .1 .1 .1 .0 j .descriptors ++ crate.together (a .1 .1 .1 .1 j) .descriptors)));
+        standards = p j .standards ++ (q j .standards ++ (r j .standards ++ (t j .standards ++ crate.together (a .1 .1 .1 .1 j) .standards)));
+        timings = p j .timings ++ (q j .timings ++ (r j .timings ++ (t j .timings ++ crate.together (a .1 .1 .1 .1 j) .timings)));
+        points = p j .points ++ (q j .points ++ (r j .points ++ (t j .points ++ crate.together (a .1 .1 .1 .1 j) .points)));
+        descriptors = p j .descriptors ++ (q j .descriptors ++ (r j .descriptors ++ (t j .descriptors ++ crate.together (a .1 .1 .1 .1 j) .descriptors)));
       })
       ∙ (λ j. record {
         standards = four (λ i. listed s i .standards) j;
@@ -81,14 +85,14 @@ module _ (s : List ℕ) where
   -- ---- the block
 
   abbrev pub PartsRead : Parts → List ℕ → ℕ → Type 0
-  PartsRead p cs n = (isHeader s ≡ true) × Accepts s 4 0 × (cratePlain p ≡ converted number (plain s)) × (n ≡ 127)
+  PartsRead p cs n = (isHeader s ≡ true) × Accepts s 4 0 × (NoOffsets s → cratePlain p ≡ converted number (plain s)) × (n ≡ 127)
 
   -- the parts, put together
-  plain-agrees : (f : Front) (a : List CratePair) (xs : List crate.Said) → f ≡ frontFrom s → a ≡ map pairFrom (eightIn s) → All s 4 0 xs
+  plain-agrees : (f : Front) (a : List CratePair) (xs : List crate.Said) → f ≡ frontFrom s → a ≡ map pairFrom (eightIn s) → All s 4 0 xs → NoOffsets s
       → cratePlain (record { front = f; established = flagsIn s; eight = a; slots = xs; extensions = s ! 126 }) ≡ converted number (plain s)
   unfolding cratePlain converted
-  plain-agrees f a xs h k all =
-      let t = together-is xs all in
+  plain-agrees f a xs h k all still =
+      let t = together-is still xs all in
       let eight = map-map (λ p. pairFrom (p .pair)) (heldPair .wrap 0) (eightIn s) in
       let pairs = turned heldPair pairFrom (λ i. lists (saidIn s i) .pairs) 4 in
       (λ j. record {
@@ -117,11 +121,11 @@ module _ (s : List ℕ) where
         extensions = s ! 126;
       })
 
-module _ (s : List ℕ) (block : Block s) (unmarked : Unmarked s) where
+module _ (s : List ℕ) (block : Block s) (clear : Clear s) where
   module _ (F : ℕ → Type 0) (two : isHeader s ≡ false → F 2) (refused : (i : ℕ) → i < 4 → (n : ℕ) → saidIn s i ≡ refusal n → F n)
       (filled : inSlots otherFill s ≡ true → F 5) where
     eight-along : Along (PairsRead (structureIn s) s 38 8 38) F (pairs 8) (drop 38 s) 38
-    eight-along = pairs-along (structureIn s) s F 8 38 38 (omega (arith, block .size)) (λ e. ratios s block unmarked e .0)
+    eight-along = pairs-along (structureIn s) s F 8 38 38 (omega (arith, block .size)) (λ e. ratios s block clear e .0)
 
     -- the slots, and the extension count
     end-along : (f : Front) (a : List CratePair) → isHeader s ≡ true → f ≡ frontFrom s → a ≡ map pairFrom (eightIn s)
@@ -132,7 +136,7 @@ module _ (s : List ℕ) (block : Block s) (unmarked : Unmarked s) where
         along-then _ F crate.slots _ (drop 54 s) 54
         (along-map (LaterRead s 4 0) F _ crate.slots (drop 54 s) 54
         (λ xs cs m r. rw (r .2, spell s 126 1 (omega (arith, block .size))) (h, r .0, plain-agrees s f a xs e k (r .1), omega (arith, r .3)))
-        (slots-along s block unmarked F refused filled))
+        (slots-along s block clear F refused filled))
 
     pub parts-along : Along (PartsRead s) F parts s 0
     unfolding parts established byte word flagsOf crateFlagsOf
@@ -143,7 +147,7 @@ module _ (s : List ℕ) (block : Block s) (unmarked : Unmarked s) where
         (along-then _ F (pairs 8) _ (drop 38 s) 38
         (along-map (PairsRead (structureIn s) s 38 8 38) F _ (pairs 8) (drop 38 s) 38
         (λ a ds k q. rw (q .1, q .2) (end-along f a (r .0) (r .1) (q .0))) eight-along)))
-        (front-along s block (before-four s block unmarked) F two))
+        (front-along s block F two))
 
 -- ---- verdicts
 
@@ -170,8 +174,8 @@ module _ (s : List ℕ) where
 pub not-refused : {A : Type 0} (n at : ℕ) → refusedAt n at ≡ Accepted → A
 not-refused n at e = let z : _≡_ {A = ℕ} 0 1 = cc in absurd (omega arith)
 
-module _ (s : List ℕ) (block : Block s) (unmarked : Unmarked s) where
+module _ (s : List ℕ) (block : Block s) (clear : Clear s) where
   pub read-parts : (p : Parts) (n : ℕ) → run parts s 0 ≡ got p n → PartsRead s p (drop n s) n
   read-parts p n e =
       subst (Came s (PartsRead s) (λ k. Unit {0})) e
-      (along (PartsRead s) (λ k. Unit {0}) parts s 0 (parts-along s block unmarked (λ k. Unit {0}) (λ h. tt) (λ i l k h. tt) (λ h. tt)))
+      (along (PartsRead s) (λ k. Unit {0}) parts s 0 (parts-along s block clear (λ k. Unit {0}) (λ h. tt) (λ i l k h. tt) (λ h. tt)))

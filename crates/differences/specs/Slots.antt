@@ -1,4 +1,4 @@
--- The four slots of an unmarked block, one after the other: each begins where the standard reading has it.
+-- The four slots of a block without a mark, but for the revision's, one after the other: each begins where the standard reading has it.
 use Prim.Native.Nat.{ℕ, zero, suc, _+_, _<_}
 use mathlib.Core.Path.{_≡_, refl, sym, ap, subst}
 use mathlib.Core.Bool.{Bool, true, false, _&&_, _||_, cond, false≢true}
@@ -6,7 +6,7 @@ use mathlib.Core.List.{List, [], _∷_}
 use native.Mathlib.Omega.{arith}
 use lib.Dec.{leb, ltb}
 use lib.ListN.{take, drop}
-use borrow.Author.Tests.{ltb-true, ltb-false, lt-ltb, leb-false}
+use borrow.Author.Tests.{ltb-true, ltb-false, le-leb}
 use Rattle.bits.specs.Bytes.{_!_}
 use Rattle.steps.specs.Steps.{Steps, done, _>>=_}
 use Rattle.steps.specs.Laws.{then-then}
@@ -21,7 +21,7 @@ use Rattle.standard_slots.specs.Said.{refusal, lists, said}
 use Rattle.standard_reading.specs.Slots.{start, saidIn, judge}
 use Rattle.write_leaf.specs.Again.{part-bytes}
 use Rattle.marking.specs.Marks.{some, slotIn, inSlots, activeLowZero, tag10, indexZero, gammaFF, codesZero, pairsZero, marksIn}
-use Rattle.differences.specs.Unmarked.{Block, Unmarked, otherFill}
+use Rattle.differences.specs.Unmarked.{Block, Clear, offsetsAdd, NoOffsets, otherFill}
 use Rattle.differences.specs.Along.{Along, along-map, along-then, spelled, spell}
 use Rattle.differences.specs.Pairs.{nor}
 use Rattle.differences.specs.Kinds.{plainFrom, Clean, slot-along}
@@ -61,20 +61,21 @@ below-three r = go (ltb r 3) (ltb r 4)
     go false true e = cc
     go false false e = cc
 
--- below 4 by the revision, and by the structure
-below-four : (r : ℕ) → leb 4 r ≡ false → since4 (structureOf r) ≡ false
-below-four r h = rw (lt-ltb r 4 (leb-false 4 r h)) (go (ltb r 3))
+-- from 4 on by the structure, and by the revision
+from-four : (r : ℕ) → since4 (structureOf r) ≡ true → leb 4 r ≡ true
+from-four r h = go (ltb r 3) (ltb r 4) refl h
   where
-    go : (t : Bool) → since4 (cond t Structure.Below3 Structure.From3) ≡ false
-    go true = refl
-    go false = refl
+    go : (t u : Bool) → ltb r 4 ≡ u → since4 (cond t Structure.Below3 (cond u Structure.From3 Structure.From4)) ≡ true → leb 4 r ≡ true
+    go true u e h = absurd (false≢true h)
+    go false true e h = absurd (false≢true h)
+    go false false e h = le-leb 4 r (ltb-false r 4 e)
 
 module _ (s : List ℕ) where
   -- of the 18 bytes t of slot i the crate reading says x
   abbrev Tells : ℕ → List ℕ → crate.Said → List ℕ → ℕ → Type 0
   Tells i t x cs n =
       let y = said (structureIn s) i t (start i) in
-      (judge y (start i) ≡ Accepted) × (crate.lists x ≡ plainFrom (lists y)) × (cs ≡ drop (start i + 18) s) × (n ≡ start i + 18)
+      (judge y (start i) ≡ Accepted) × (NoOffsets s → crate.lists x ≡ plainFrom (lists y)) × (cs ≡ drop (start i + 18) s) × (n ≡ start i + 18)
 
   -- what slot i lists, converted
   abbrev pub listed : ℕ → crate.Plain
@@ -85,40 +86,35 @@ module _ (s : List ℕ) where
   Accepts zero i = Unit {0}
   Accepts (suc n) i = (judge (saidIn s i) (start i) ≡ Accepted) × Accepts n (suc i)
 
-  -- and the crate reading says xs of them
+  -- and the crate reading says xs of them, and lists the same, where no offsets add anything
   abbrev pub All : ℕ → ℕ → List crate.Said → Type 0
   All zero i xs = xs ≡ []
   All (suc n) i [] = ⊥
-  All (suc n) i (x ∷ xs) = (crate.lists x ≡ listed i) × All n (suc i) xs
+  All (suc n) i (x ∷ xs) = (NoOffsets s → crate.lists x ≡ listed i) × All n (suc i) xs
 
   abbrev pub LaterRead : ℕ → ℕ → List crate.Said → List ℕ → ℕ → Type 0
   LaterRead n i xs cs m = Accepts n i × All n i xs × (cs ≡ drop 126 s) × (m ≡ 126)
 
-module _ (s : List ℕ) (block : Block s) (unmarked : Unmarked s) where
+module _ (s : List ℕ) (block : Block s) (clear : Clear s) where
   -- of ratios there is something to say below revision 3 alone
   pub ratios : structureIn s ≡ Structure.Below3 → (codesZero s 38 8 ≡ false) × (inSlots pairsZero s ≡ false)
   unfolding marksIn
-  ratios e = nor (codesZero s 38 8) (inSlots pairsZero s) (second-not (ltb (s ! 19) 3) _ (below-three (s ! 19) e) (unmarked .ratio))
-
-  -- its structure is not 1.4
-  pub before-four : since4 (structureIn s) ≡ false
-  unfolding marksIn
-  before-four = below-four (s ! 19) (unmarked .revision)
+  ratios e = nor (codesZero s 38 8) (inSlots pairsZero s) (second-not (ltb (s ! 19) 3) _ (below-three (s ! 19) e) (clear .ratio))
 
   not-in : (f : List ℕ → Bool) → inSlots f s ≡ false → (i : ℕ) → i < 4 → f (slotIn s i) ≡ false
   not-in f = none-of 4 (λ i. f (slotIn s i))
 
-  clean : (i : ℕ) → i < 4 → Clean (structureIn s) (slotIn s i)
+  clean : (i : ℕ) → i < 4 → Clean (NoOffsets s) (structureIn s) (slotIn s i)
   unfolding marksIn
   clean i l =
       record {
         bytes = part-bytes s (start i) 18 (block .bytes);
-        old = before-four;
-        active = not-in activeLowZero (unmarked .active) i l;
-        dummy = not-in tag10 (unmarked .dummy) i l;
-        index = not-in indexZero (unmarked .index) i l;
-        gamma = not-in gammaFF (unmarked .gamma) i l;
+        active = not-in activeLowZero (clear .active) i l;
+        dummy = not-in tag10 (clear .dummy) i l;
+        index = not-in indexZero (clear .index) i l;
+        gamma = not-in gammaFF (clear .gamma) i l;
         ratio = λ e. not-in pairsZero (ratios e .1) i l;
+        still = λ q new. not-in offsetsAdd (second-not (leb 4 (s ! 19)) (inSlots offsetsAdd s) (from-four (s ! 19) new) q) i l;
       }
 
   module _ (F : ℕ → Type 0) (refused : (i : ℕ) → i < 4 → (n : ℕ) → saidIn s i ≡ refusal n → F n) (filled : inSlots otherFill s ≡ true → F 5) where
@@ -128,8 +124,8 @@ module _ (s : List ℕ) (block : Block s) (unmarked : Unmarked s) where
         let f : slotIn s i ≡ spelled s (start i) 18 [] = ap (take 18) e in
         subst (λ (bs : List ℕ). Along (Tells s i (slotIn s i)) F (detailed >>= saidAt i) bs (start i)) (sym e)
         (subst (λ (t : List ℕ). Along (Tells s i t) F (detailed >>= saidAt i) (spelled s (start i) 18 (drop (start i + 18) s)) (start i)) (sym f)
-        (slot-along (structureIn s) F _ _ _ _ _ _ _ _ _ _ _ _ _ _ _ _ _ _ (drop (start i + 18) s) (start i) i
-        (subst (Clean (structureIn s)) f (clean i l)) (λ n h. refused i l n (rw f h)) (λ h. filled (one-of 4 (λ j. otherFill (slotIn s j)) i l (rw f h)))))
+        (slot-along (NoOffsets s) (structureIn s) F _ _ _ _ _ _ _ _ _ _ _ _ _ _ _ _ _ _ (drop (start i + 18) s) (start i) i
+        (subst (Clean (NoOffsets s) (structureIn s)) f (clean i l)) (λ n h. refused i l n (rw f h)) (λ h. filled (one-of 4 (λ j. otherFill (slotIn s j)) i l (rw f h)))))
 
     -- ---- one after the other
 

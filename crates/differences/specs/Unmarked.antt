@@ -1,9 +1,11 @@
--- What `differences-are-whole` says: a block without the six marks, and what then holds of its two records.
+-- What `differences-are-whole` says: a block without the six marks, and what then holds of its two records. The other theorems ask for less.
 use Prim.Native.Nat.{ℕ, _+_, _*_}
 use mathlib.Core.Path.{_≡_}
 use mathlib.Core.Bool.{Bool, false, not, _&&_, _||_}
 use mathlib.Core.List.{List}
+use lib.Dec.{leb}
 use lib.ListN.{length, drop}
+use Rattle.bits.specs.Fields.{digits}
 use Rattle.bits.specs.Bytes.{_!_, part}
 use Rattle.crate_record.specs.Seen.{Seen as CrateSeen}
 use Rattle.crate_record.specs.declared.ManufacturerID.{ManufacturerID}
@@ -13,7 +15,7 @@ use Rattle.standard_record.specs.declared.Maker.{Maker}
 use Rattle.standard_parts.specs.Head.{makerOf}
 use Rattle.standard_parts.specs.Text.{textLength, allSpaces}
 use Rattle.write_leaf.specs.Bytes.{Bytes}
-use Rattle.marking.specs.Marks.{tagged, marksIn}
+use Rattle.marking.specs.Marks.{inSlots, tagged, marksIn}
 use Rattle.differences.specs.Converted.{converted}
 
 -- 128 bytes
@@ -21,14 +23,26 @@ pub record Block (s : List ℕ) : Type 0 where
   pub size : length s ≡ 128
   pub bytes : Bytes s
 
--- none of the marks
-pub record Unmarked (s : List ℕ) : Type 0 where
+-- none of the marks but that of the revision
+pub record Clear (s : List ℕ) : Type 0 where
   pub active : marksIn s .active ≡ false
   pub dummy : marksIn s .dummy ≡ false
   pub index : marksIn s .index ≡ false
   pub gamma : marksIn s .gamma ≡ false
   pub ratio : marksIn s .ratio ≡ false
+
+-- none of the marks
+pub record Unmarked (s : List ℕ) : Type 0 where
+  pub clear : Clear s
   pub revision : marksIn s .revision ≡ false
+
+-- of a slot, range limits to which the byte behind the tag adds something: code 2 or 3 on an axis
+abbrev pub offsetsAdd : List ℕ → Bool
+offsetsAdd t = tagged 0xfd t && (leb 2 (digits (t ! 4) 0 2) || leb 2 (digits (t ! 4) 2 2))
+
+-- that is so from revision 4 on
+abbrev pub NoOffsets : List ℕ → Type 0
+NoOffsets s = (leb 4 (s ! 19) && inSlots offsetsAdd s) ≡ false
 
 -- no mark, but a difference: of a slot, a text with something else than spaces behind its 0x0a
 abbrev pub otherFill : List ℕ → Bool

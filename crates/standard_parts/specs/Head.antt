@@ -55,7 +55,7 @@ inputOf σ b20 =
 abbrev pub ratioAlone : Structure → ℕ → ℕ → ImageSize
 ratioAlone σ w h = cond (since4 σ) (Image.Ratio (record { width = w; height = h })) Image.None
 
--- stored in centimetres; none where both are 0
+-- stored in centimetres; none where both are 0, and below revision 4 where one is
 unfoldable pub imageOf : Structure → ℕ → ℕ → ImageSize
 imageOf σ b21 b22 =
     cond (eqb b21 0) (cond (eqb b22 0) Image.None (ratioAlone σ 100 (b22 + 99)))

@@ -8,7 +8,7 @@ use Rattle.standard_parts.specs.declared.Structure.the-variants.{Below3,
 abbrev pub structureOf : ℕ → Structure
 structureOf revision = cond (ltb revision 3) Below3 (cond (ltb revision 4) From3 From4)
 
--- whether it is 1.4
+-- whether it is 1.4 or above
 abbrev pub since4 : Structure → Bool
 since4 Below3 = false
 since4 From3 = false

@@ -13,6 +13,7 @@ use Rattle.timing.specs.declared.StereoType.the-variants as Stereo
 use Rattle.standard_record.specs.Seen.{seen}
 use Rattle.standard_record.specs.Held.{heldPoint, heldPair, heldTiming}
 use Rattle.standard_record.specs.declared.StandardRecord.{StandardRecord}
+use Rattle.standard_record.specs.declared.Limits.{Limits}
 use Rattle.standard_record.specs.declared.DetailedTiming.{DetailedTiming}
 use Rattle.standard_record.specs.declared.StandardTiming.{StandardTiming}
 use Rattle.standard_record.specs.declared.WhitePoint.{WhitePoint}
@@ -22,9 +23,9 @@ use Rattle.standard_reading.specs.Slots.{start}
 use Rattle.write_leaf.specs.Bytes.{digit}
 use Rattle.write_timing.specs.Dropped.{no-stereo}
 use Rattle.write_pairs.specs.Pairs.{pairsBytes}
-use Rattle.write_slots.specs.Words.{Words}
+use Rattle.write_slots.specs.Words.{Words, Secondary, range}
 use Rattle.write_slots.specs.Slot.{tagged, slotBytes}
-use Rattle.write_slots.specs.Dropped.{behindTag, beside-tag, unused-slot, point-digits, unused-point, HasText, padded}
+use Rattle.write_slots.specs.Dropped.{behindTag, beside-tag, offset-digits, unused-slot, point-digits, unused-point, HasText, padded}
 use Rattle.write_head.specs.Front.{frontBytes}
 use Rattle.write_head.specs.Dropped.{before-letters, no-letters, digital-input, no-size, even-ratio, behind-flags}
 use Rattle.write_block.specs.Shown.{Shown, shown, worded}
@@ -64,6 +65,8 @@ pub record Dropped (x : Shown) (b : List ℕ) : Type 0 where
       → part (part b (start i) 18) 5 12 ≡ pairsBytes 6 (p ∷ ps)
   pub stereo : (i : ℕ) → i < 4 → (d : DetailedTiming) (ts : List DetailedTiming) → timingsIn x i ≡ d ∷ ts → d .stereo ≡ Stereo.None → b ! (start i + 17) % 2 ≡ 0
   pub tags : (i : ℕ) → i < 4 → timingsIn x i ≡ [] → (b ! (start i + 2) ≡ 0) × (b ! (start i + 4) ≡ behindTag (pairsIn x i) (pointsIn x i) (wordsIn x i))
+  pub offsets : (i : ℕ) → i < 4 → timingsIn x i ≡ [] → pairsIn x i ≡ [] → pointsIn x i ≡ [] → (l : Limits) (s : Secondary) (ds : List Words) → wordsIn x i ≡ range l s ∷ ds
+      → b ! (start i + 4) < 16
   pub points : (i : ℕ) → i < 4 → timingsIn x i ≡ [] → pairsIn x i ≡ [] → (w : WhitePoint) (ws : List WhitePoint) → pointsIn x i ≡ w ∷ ws
       → (b ! (start i + 6) < 16) × (b ! (start i + 11) < 16)
   -- one point alone: bytes 10 to 14 of the slot
@@ -99,6 +102,7 @@ dropped x = record {
   six = λ i h e p ps q. rw (canonical-slot x i h, e, q) (slot-six p ps _ _);
   stereo = λ i h d ts e s. rw (slot-byte x i h 17 (omega arith), e) (slot-stereo d ts _ _ _ s);
   tags = λ i h e. rw (slot-byte x i h 2 (omega arith), slot-byte x i h 4 (omega arith), e) (beside-tag _ _ _);
+  offsets = λ i h e p q l s ds f. rw (slot-byte x i h 4 (omega arith), e, p, q, f) (offset-digits l s ds);
   points = λ i h e p w ws q. rw (slot-byte x i h 6 (omega arith), slot-byte x i h 11 (omega arith), e, p, q) (point-digits w ws _);
   point = λ i h e p w q. rw (canonical-slot x i h, e, p, q) (unused-point w _);
   padding = λ i h e p q w ds f t g k l m. rw (slot-byte x i h (5 + k) (omega arith), e, p, q, f) (padded g ds k l m);

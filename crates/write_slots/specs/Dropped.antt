@@ -1,18 +1,20 @@
 -- Laws: what the reading drops of a slot, or does not tell from another, is fixed.
-use Prim.Native.Nat.{ℕ, _+_, _<_}
+use Prim.Native.Nat.{ℕ, _+_, _/_, _<_}
 use mathlib.Core.Path.{_≡_, refl, _∙_}
 use mathlib.Core.List.{List, [], _∷_}
 use native.Mathlib.Omega.{arith}
 use lib.ListN.{length, replicate}
 use lib.Seq.{getD-append-add}
 use Rattle.bits.specs.Bytes.{_!_, part}
+use Rattle.standard_record.specs.declared.Limits.{Limits}
 use Rattle.standard_record.specs.declared.StandardTiming.{StandardTiming}
 use Rattle.standard_record.specs.declared.WhitePoint.{WhitePoint}
 use Rattle.write_parts.specs.Point.{pointBytes}
 use Rattle.write_parts.specs.Text.{textBytes}
 use Rattle.write_parts.specs.Texts.{padding}
-use Rattle.write_slots.specs.Words.{Words, serial, text, range, name, undefined, makerDefined}
+use Rattle.write_slots.specs.Words.{Words, Secondary, serial, text, range, name, undefined, makerDefined}
 use Rattle.write_slots.specs.Slot.{tagged, offsetsByte, slotBytes}
+use Rattle.write_slots.specs.Limits.{code-under}
 
 -- what stands behind the tag: the offsets of range limits, and nothing else
 abbrev pub behindTag : List StandardTiming → List WhitePoint → List Words → ℕ
@@ -38,6 +40,11 @@ beside-tag [] [] (name t ∷ ds) = (refl, refl)
 beside-tag [] [] (undefined tag t ∷ ds) = (refl, refl)
 beside-tag [] [] (makerDefined tag t ∷ ds) = (refl, refl)
 beside-tag [] [] [] = (refl, refl)
+
+-- the upper four digits of the byte of the offsets
+pub offset-digits : (l : Limits) (s : Secondary) (ds : List Words) → slotBytes [] [] [] (range l s ∷ ds) ! 4 < 16
+unfolding slotBytes
+offset-digits l s ds = omega (arith, code-under (l .vmin) (l .vmax), code-under (l .hmin / 1000) (l .hmax / 1000))
 
 -- a slot without entries, whole
 pub unused-slot : slotBytes [] [] [] [] ≡ tagged 0x10 (replicate 13 0)
