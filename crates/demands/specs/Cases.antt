@@ -1,5 +1,5 @@
 -- Worked cases of the two definitions, as entries of one list under one claim. antt computes each.
-use Prim.Native.Nat.{ℕ, _*_}
+use Prim.Native.Nat.{ℕ}
 use mathlib.Core.Path.{_≡_, refl}
 use mathlib.Core.Bool.{true, false}
 use mathlib.Core.List.{List, [], _∷_, _++_}
@@ -20,17 +20,12 @@ use Rattle.crate_descriptors.specs.Descriptors.{spaces, closing, pointOf, point
 use Rattle.crate_slots.specs.Slots.{later, slots}
 use Rattle.crate_reading.specs.Reading.{parts, plain, reading, answer}
 use Rattle.tags.specs.Tags.{tagOf}
-use Rattle.shared_record.specs.declared.SupportedSync.{SupportedSync}
 use Rattle.standard_record.specs.Filler.{blank}
-use Rattle.standard_record.specs.declared.Week.{Week}
 use Rattle.standard_record.specs.declared.Week.the-variants.{Made, ModelYear}
 use Rattle.standard_record.specs.declared.Depth.the-variants as Depth
-use Rattle.standard_record.specs.declared.VideoInput.{VideoInput}
-use Rattle.standard_record.specs.declared.VideoInput.the-variants.{Analog, Digital, Interface}
-use Rattle.standard_record.specs.declared.ImageSize.{ImageSize}
+use Rattle.standard_record.specs.declared.VideoInput.the-variants.{Digital, Interface}
 use Rattle.standard_record.specs.declared.ImageSize.the-variants as Size
-use Rattle.standard_record.specs.declared.DisplayType.the-variants.{RGBColor}
-use Rattle.standard_record.specs.declared.Kind.{Kind}
+use Rattle.standard_record.specs.declared.DisplayType.the-variants.{Monochrome, OtherColor, Undefined}
 use Rattle.standard_record.specs.declared.Kind.the-variants.{Typed, Encodings}
 use Rattle.standard_record.specs.declared.StandardReading.{StandardReading}
 use Rattle.standard_timing.specs.Timing.{timingIn}
@@ -44,7 +39,7 @@ use Rattle.standard_slots.specs.Said.{pointAt, rangeIn, said}
 use Rattle.standard_reading.specs.Slots.{judged}
 use Rattle.standard_reading.specs.Block.{recordOf, standardOf}
 use Rattle.demands.specs.Specimen.{specimen, lobby, mode, specimenOf, specimenWith, named}
-use Rattle.demands.specs.Panels.{fullBlock, rangeBlock, twoTimings, ratioBlock, headBlock, fdSlot, limitsBlock, blankBeside, Head, old, new, showing, specimenShows, fullShows, rangeShows, twoShow, ratioShows, headShows, rates, limitsShow}
+use Rattle.demands.specs.Panels.{fullBlock, rangeBlock, twoTimings, ratioBlock, headBlock, fdSlot, limitsBlock, blankBeside, told, specimenSize, shape, analog, old, new, showing, specimenShows, fullShows, rangeShows, twoShow, ratioShows, headShows, rates, limitsShow}
 
 -- a block, and what one of the two readings makes of it
 pub data Case : Type 0 where
@@ -91,19 +86,6 @@ pub six : List WhitePoint
 six =
     let p : ℕ → WhitePoint = λ index. record { index = index; x = f0; y = f0; gamma = f1 } in
     p 1 ∷ p 0 ∷ p 1 ∷ p 0 ∷ p 1 ∷ p 0 ∷ []
-
--- of the standard reading, by the revision
-abbrev told : ℕ → Week → VideoInput → ImageSize → Kind → Head
-told revision week input size kind = record { revision = revision; week = week; input = input; size = size; kind = kind }
-
-abbrev centimetres : ℕ → ℕ → ImageSize
-centimetres w h = Size.Some (record { width = w * 10; height = h * 10 })
-
-abbrev shape : ℕ → ℕ → ImageSize
-shape w h = Size.Ratio (record { width = w; height = h })
-
-abbrev flags : SupportedSync
-flags = record { serrated = true; green = true; composite = false; separate = true }
 
 -- ranges with the codes 0, 1 and 2 on both axes; with 3, with 2 and 3, and with 3 and 2
 abbrev lowLimits : ℕ → ℕ → List ℕ
@@ -152,16 +134,18 @@ cases =
     standard-reads (ratioBlock 2 0xc3) (ratioShows (old 2 (Digital true)) 1 1) ∷
     standard-reads (ratioBlock 3 0xc2) (ratioShows (old 3 (Digital true)) 16 10) ∷
     standard-reads (ratioBlock 4 0xc1) (ratioShows (new 4) 16 10) ∷
-    standard-reads (headBlock 0x0a 3 0xe1 0x20 0x12 0x63) (headShows (old 3 (Digital true))) ∷
-    standard-reads (headBlock 0x0a 4 0xe1 0x20 0x12 0x62) (headShows (told 4 (Made 10) (Interface (Depth.Bits 16) 1) (centimetres 32 18) (Encodings true false))) ∷
-    standard-reads (headBlock 0xff 3 0xd5 0x4f 0x00 0x5d) (headShows (told 3 (Made 255) (Digital true) Size.None (Typed RGBColor))) ∷
-    standard-reads (headBlock 0xff 4 0xd5 0x4f 0x00 0x5c) (headShows (told 4 ModelYear (Interface (Depth.Bits 14) 5) (shape 178 100) (Encodings true false))) ∷
-    standard-reads (headBlock 0xff 255 0xd5 0x4f 0x00 0x61) (headShows (told 255 ModelYear (Interface (Depth.Bits 14) 5) (shape 178 100) (Encodings true false))) ∷
-    standard-reads (headBlock 0x36 3 0x2d 0x00 0x4f 0xce) (headShows (told 3 (Made 54) (Analog 1 false flags) Size.None (Typed RGBColor))) ∷
-    standard-reads (headBlock 0x36 4 0x2d 0x00 0x4f 0xcd) (headShows (told 4 (Made 54) (Analog 1 false flags) (shape 100 178) (Typed RGBColor))) ∷
-    standard-reads (headBlock 0xfe 4 0x80 0x01 0x00 0x00) (headShows (told 4 (Made 254) (Interface Depth.Undefined 0) (shape 100 100) (Encodings true false))) ∷
-    standard-reads (headBlock 0xfe 4 0xff 0x00 0x01 0x81) (headShows (told 4 (Made 254) (Interface Depth.Reserved 15) (shape 100 100) (Encodings true false))) ∷
-    standard-reads (headBlock 0x0a 4 0x8a 0x00 0x00 0xeb) (headShows (told 4 (Made 10) (Interface Depth.Undefined 10) Size.None (Encodings true false))) ∷
+    standard-reads (headBlock 0x0a 3 0xe1 0x20 0x12 0x12 0x5b) (headShows (told 3 (Made 10) (Digital true) specimenSize (Typed OtherColor))) ∷
+    standard-reads (headBlock 0x0a 4 0xe1 0x20 0x12 0x12 0x5a) (headShows (told 4 (Made 10) (Interface (Depth.Bits 16) 1) specimenSize (Encodings false true))) ∷
+    standard-reads (headBlock 0xff 3 0xd5 0x4f 0x00 0x1a 0x4d) (headShows (told 3 (Made 255) (Digital true) Size.None (Typed Undefined))) ∷
+    standard-reads (headBlock 0xff 4 0xd5 0x4f 0x00 0x1a 0x4c) (headShows (told 4 ModelYear (Interface (Depth.Bits 14) 5) (shape 178 100) (Encodings true true))) ∷
+    standard-reads (headBlock 0xff 255 0xa5 0x4f 0x00 0x1a 0x81) (headShows (told 255 ModelYear (Interface (Depth.Bits 8) 5) (shape 178 100) (Encodings true true))) ∷
+    standard-reads (headBlock 0x36 3 0x2d 0x00 0x4f 0x02 0xd6) (headShows (told 3 (Made 54) analog Size.None (Typed Monochrome))) ∷
+    standard-reads (headBlock 0x36 4 0x2d 0x00 0x4f 0x02 0xd5) (headShows (told 4 (Made 54) analog (shape 100 178) (Typed Monochrome))) ∷
+    standard-reads (headBlock 0xfe 4 0x80 0x01 0x00 0x02 0x08) (headShows (told 4 (Made 254) (Interface Depth.Undefined 0) (shape 100 100) (Encodings false false))) ∷
+    standard-reads (headBlock 0xfe 4 0xff 0x00 0x01 0x12 0x79) (headShows (told 4 (Made 254) (Interface Depth.Reserved 15) (shape 100 100) (Encodings false true))) ∷
+    standard-reads (headBlock 0x0a 4 0x9a 0x00 0x00 0x0a 0xdb) (headShows (told 4 (Made 10) (Interface (Depth.Bits 6) 10) Size.None (Encodings true false))) ∷
+    standard-reads (headBlock 0x0a 4 0xb2 0xff 0x00 0x0a 0xc4) (headShows (told 4 (Made 10) (Interface (Depth.Bits 10) 2) (shape 354 100) (Encodings true false))) ∷
+    standard-reads (headBlock 0x0a 4 0xc3 0x00 0xff 0x0a 0xb3) (headShows (told 4 (Made 10) (Interface (Depth.Bits 12) 3) (shape 100 354) (Encodings true false))) ∷
     standard-reads (lowLimits 3 0x96) (limitsShow (old 3 (Digital true)) (rates 255 255 255 255) (rates 255 255 1 255) (rates 255 1 255 1)) ∷
     standard-reads (lowLimits 4 0x95) (limitsShow (new 4) (rates 255 255 255 255) (rates 255 255 1 255) (rates 255 256 255 256)) ∷
     standard-reads (highLimits 3 0x89) (limitsShow (old 3 (Digital true)) (rates 1 255 255 255) (rates 0 0 0 0) (rates 0 0 0 0)) ∷
@@ -169,4 +153,4 @@ cases =
 
 pub cases-hold : Hold cases
 unfolding cases shortest longest six fullBlock rangeBlock twoTimings ratioBlock headBlock limitsBlock showing specimenShows fullShows rangeShows twoShow ratioShows headShows limitsShow specimen lobby specimenOf named byte word long header maker date product version inputOf input sizeOf gammaFrom dpmsOf dpms display color front flagsBy established standardTimingOf pairOf pair pairs scan padding skip span text syncOf fitted axes timingOf timed detailed spaces closing pointOf point ended second points white stringOf string rawOf raw tagged descriptor later slots parts plain reading tagOf standardOf beforeSlots judged recordOf said pointAt rangeIn timingIn productIn colorsIn inputBy imageOf gammaOf featuresOf pointBy flagsOf pairBy limitsOf secondaryOf closingRefusal rangeRefusal blank backPorch acrossOf downOf ofBits ofInt add div
-cases-hold = (refl, (refl, (refl, (refl, (refl, (refl, (refl, (refl, (refl, (refl, (refl, (refl, (refl, (refl, (refl, (refl, (refl, (refl, (refl, (refl, (refl, (refl, (refl, (refl, (refl, (refl, (refl, (refl, (refl, (refl, (refl, (refl, (refl, (refl, (refl, (refl, (refl, (refl, (refl, (refl, (refl, (refl, (refl, (refl, (refl, (refl, (refl, (refl, (refl, (refl, (refl, (refl, tt))))))))))))))))))))))))))))))))))))))))))))))))))))
+cases-hold = (refl, (refl, (refl, (refl, (refl, (refl, (refl, (refl, (refl, (refl, (refl, (refl, (refl, (refl, (refl, (refl, (refl, (refl, (refl, (refl, (refl, (refl, (refl, (refl, (refl, (refl, (refl, (refl, (refl, (refl, (refl, (refl, (refl, (refl, (refl, (refl, (refl, (refl, (refl, (refl, (refl, (refl, (refl, (refl, (refl, (refl, (refl, (refl, (refl, (refl, (refl, (refl, (refl, (refl, tt))))))))))))))))))))))))))))))))))))))))))))))))))))))

@@ -1,6 +1,6 @@
 -- What the standard reading makes of the specimen, and of six more blocks: one with an analog input and as many pairs as there can be, one
--- with a white point and ranges, one with two timings; and of any revision one with a ratio of code 0, one with other bytes from the week to the size, and
--- one with three ranges.
+-- with a white point and ranges, one with two timings; and of any revision one with a ratio of code 0, one with other bytes from the week to the
+-- features, and one with three ranges.
 use Prim.Native.Nat.{ℕ, _*_}
 use mathlib.Core.Bool.{true, false}
 use mathlib.Core.List.{List, [], _∷_, _++_, map}
@@ -72,10 +72,10 @@ ratioBlock revision sum =
     0x00 ∷ 0x00 ∷ 0x00 ∷ 0xfa ∷ 0x00 ∷ 0xd1 ∷ 0x00 ∷ 0x01 ∷ 0x01 ∷ 0x01 ∷ 0x01 ∷ 0x01 ∷ 0x01 ∷ 0x01 ∷ 0x01 ∷ 0x01 ∷ 0x01 ∷ 0x0a ∷ [])
     ++ drop 90 (take 127 specimen) ++ (sum ∷ [])
 
--- these bytes for the week, the revision, the input and the size
-unfoldable pub headBlock : ℕ → ℕ → ℕ → ℕ → ℕ → ℕ → List ℕ
-headBlock week revision input width height sum =
-    take 16 specimen ++ (week ∷ 0x1e ∷ 0x01 ∷ revision ∷ input ∷ width ∷ height ∷ []) ++ drop 23 (take 127 specimen) ++ (sum ∷ [])
+-- these bytes for the week, the revision, the input, the size and the features
+unfoldable pub headBlock : ℕ → ℕ → ℕ → ℕ → ℕ → ℕ → ℕ → List ℕ
+headBlock week revision input width height features sum =
+    take 16 specimen ++ (week ∷ 0x1e ∷ 0x01 ∷ revision ∷ input ∷ width ∷ height ∷ 0x64 ∷ features ∷ []) ++ drop 25 (take 127 specimen) ++ (sum ∷ [])
 
 -- an fd slot: the byte behind the tag, then those of the four rates; 150 MHz, and nothing behind it
 abbrev pub fdSlot : ℕ → ℕ → ℕ → ℕ → ℕ → List ℕ
@@ -95,19 +95,27 @@ pub record Head : Type 0 where
   pub size : ImageSize
   pub kind : Kind
 
+abbrev pub told : ℕ → Week → VideoInput → ImageSize → Kind → Head
+told revision week input size kind = record { revision = revision; week = week; input = input; size = size; kind = kind }
+
+-- the specimen's size, and a ratio in its place
+abbrev pub specimenSize : ImageSize
+specimenSize = Size.Some (record { width = 320; height = 180 })
+
+abbrev pub shape : ℕ → ℕ → ImageSize
+shape w h = Size.Ratio (record { width = w; height = h })
+
+-- the input of byte 2d
+abbrev pub analog : VideoInput
+analog = Analog 1 false (record { serrated = true; green = true; composite = false; separate = true })
+
 -- the specimen's, with this revision below 4 and this input
 abbrev pub old : ℕ → VideoInput → Head
-old revision input = record { revision = revision; week = Made 10; input = input; size = Size.Some (record { width = 320; height = 180 }); kind = Typed RGBColor }
+old revision input = told revision (Made 10) input specimenSize (Typed RGBColor)
 
 -- from revision 4 on
 abbrev pub new : ℕ → Head
-new revision = record {
-  revision = revision;
-  week = Made 10;
-  input = Interface Depth.Undefined 1;
-  size = Size.Some (record { width = 320; height = 180 });
-  kind = Encodings true false;
-}
+new revision = told revision (Made 10) (Interface Depth.Undefined 1) specimenSize (Encodings true false)
 
 -- a refusal, with the filler beside it
 abbrev pub blankBeside : ℕ → ℕ → StandardReading
@@ -181,7 +189,7 @@ specimenShows active =
 
 unfoldable pub fullShows : StandardReading
 fullShows =
-    showing (old 3 (Analog 1 false (record { serrated = true; green = true; composite = false; separate = true }))) (oneTiming 800) 1 (pad 6 blankWhite []) 0 (
+    showing (old 3 analog) (oneTiming 800) 1 (pad 6 blankWhite []) 0 (
     map (heldPair .wrap 0) (
     mode 256 16 10 60 ∷ mode 264 4 3 61 ∷ mode 272 5 4 62 ∷ mode 280 16 9 63 ∷ mode 288 16 10 64 ∷ mode 296 4 3 65 ∷
     mode 304 5 4 66 ∷ mode 312 16 9 67 ∷ [])

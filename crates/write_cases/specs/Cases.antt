@@ -24,14 +24,13 @@ use Rattle.standard_record.specs.declared.Limits.{Limits}
 use Rattle.standard_record.specs.declared.Sync.the-variants.{DigitalSeparate}
 use Rattle.standard_record.specs.declared.Week.{Week}
 use Rattle.standard_record.specs.declared.Week.the-variants.{Made, ModelYear}
-use Rattle.standard_record.specs.declared.Depth.{Depth}
 use Rattle.standard_record.specs.declared.Depth.the-variants as Depth
 use Rattle.standard_record.specs.declared.VideoInput.{VideoInput}
-use Rattle.standard_record.specs.declared.VideoInput.the-variants.{Analog, Digital, Interface}
+use Rattle.standard_record.specs.declared.VideoInput.the-variants.{Digital, Interface}
 use Rattle.standard_record.specs.declared.ImageSize.{ImageSize}
 use Rattle.standard_record.specs.declared.ImageSize.the-variants as Image
 use Rattle.standard_record.specs.declared.Gamma.the-variants as Gamma
-use Rattle.standard_record.specs.declared.DisplayType.the-variants.{RGBColor}
+use Rattle.standard_record.specs.declared.DisplayType.the-variants.{Monochrome, RGBColor}
 use Rattle.standard_record.specs.declared.Kind.{Kind}
 use Rattle.standard_record.specs.declared.Kind.the-variants.{Typed, Encodings}
 use Rattle.standard_timing.specs.Timing.{timingIn}
@@ -48,15 +47,13 @@ use Rattle.standard_reading.specs.Block.{flagsIn, recordOf, standardOf}
 use Rattle.write_timing.specs.Timing.{timingBytes}
 use Rattle.write_parts.specs.Text.{filled}
 use Rattle.write_pairs.specs.Pairs.{All}
-use Rattle.write_slots.specs.Words.{serial}
 use Rattle.write_slots.specs.Slot.{slotBytes}
 use Rattle.write_head.specs.Front.{frontBytes}
 use Rattle.write_block.specs.Canonical.{body}
 use Rattle.write_block.specs.Gives.{Written, wrong-length, no-block, written}
-use Rattle.write_block.specs.Given.{same}
 use Rattle.demands.specs.Specimen.{specimen}
-use Rattle.write_cases.specs.Computed.{unlike, unread, porch, clock, ratio, letters, number, ends, weekNumber, inputNumber, sizeNumber, kindNumber, bytes-by}
-use Rattle.demands.specs.Panels.{ratioBlock, headBlock, fdSlot, limitsBlock, Head, old, new, rates}
+use Rattle.write_cases.specs.Computed.{unlike, unread, porch, clock, ratio, letters, number, ends, weekNumber, inputNumber, sizeNumber, kindNumber, gives}
+use Rattle.demands.specs.Panels.{ratioBlock, headBlock, fdSlot, limitsBlock, Head, told, specimenSize, shape, analog, old, new, rates}
 
 -- ---- the records
 
@@ -96,8 +93,8 @@ panelOf revision ts ps ds = holding (record {
 })
 
 -- its lists, with this head
-unfoldable pub headed : Head → List Held → StandardRecord
-headed head ds = holding (record {
+unfoldable pub panelWith : Head → List Held → StandardRecord
+panelWith head ds = holding (record {
   product = record { maker = productIn specimen .maker; code = 4660; serial = 1; week = head .week; year = 2020 };
   version = record { version = 1; revision = head .revision };
   display = record {
@@ -169,44 +166,42 @@ careful =
     0x4f ∷ 0x0a ∷ 0x20 ∷ 0x20 ∷ 0x20 ∷ 0x20 ∷ 0x20 ∷ 0x20 ∷ 0x20 ∷ 0x20 ∷ 0x20 ∷ 0x20 ∷ 0x00 ∷ 0x00 ∷ 0x00 ∷ 0x10 ∷
     0x00 ∷ 0x00 ∷ 0x00 ∷ 0x00 ∷ 0x00 ∷ 0x00 ∷ 0x00 ∷ 0x00 ∷ 0x00 ∷ 0x00 ∷ 0x00 ∷ 0x00 ∷ 0x00 ∷ 0x00 ∷ 0x00 ∷ 0x8c ∷ []
 
--- the specimen's entries of its last three slots, and its record with this head
+-- the specimen's entries of its last three slots
 abbrev own : List Held
 own = held .wrap 2 (called 77 5) ∷ held .wrap 3 (MakerDefined 0 (record { start = 95; len = 13 })) ∷ held .wrap 4 (MakerDefined 0 (record { start = 113; len = 13 })) ∷ []
 
-abbrev head : ℕ → Week → VideoInput → ImageSize → Kind → Head
-head revision week input size kind = record { revision = revision; week = week; input = input; size = size; kind = kind }
-
-abbrev shape : ℕ → ℕ → ImageSize
-shape w h = Image.Ratio (record { width = w; height = h })
-
-abbrev analog : VideoInput
-analog = Analog 1 false (record { serrated = true; green = true; composite = false; separate = true })
-
 -- a head that no block has
 abbrev badHead : ℕ → Week → VideoInput → ImageSize → Kind → Case
-badHead revision week input size kind = refusal (headed (head revision week input size kind) own) specimen
+badHead revision week input size kind = refusal (panelWith (told revision week input size kind) own) specimen
 
 -- it is written so
 abbrev writing : Head → List Held → List ℕ → Case
-writing h ds block = record { given = headed h ds; lent = specimen; before = out 128; number = 0; after = block }
+writing h ds block = record { given = panelWith h ds; lent = specimen; before = out 128; number = 0; after = block }
 
 -- one range in a slot
 abbrev ranged : ℕ → Limits → Held
 ranged slot l = held .wrap slot (Range l None)
 
+-- a block's own record is written as this
+abbrev anew : List ℕ → List ℕ → Case
+anew block canonical = record { given = standardOf block .edid; lent = block; before = out 128; number = 0; after = canonical }
+
+-- ranges of the same rates with both codes 1 below digits that are passed over, both 3, and 2 and 3 below such digits
+abbrev dropping : ℕ → ℕ → List ℕ
+dropping revision sum = limitsBlock revision (fdSlot 0xf5 0 45 0 45) (fdSlot 0x0f 0 45 0 45) (fdSlot 0xfe 0 45 0 45) sum
+
 unfoldable pub cases : List Case
 cases =
     -- the specimen's record
     record {
-      given = panel (first 40000000 40) (heldPair .wrap 0 (mode 1280 5 4 60) ∷ [])
-          (held .wrap 2 (called 77 5) ∷ held .wrap 3 (MakerDefined 0 (record { start = 95; len = 13 })) ∷ held .wrap 4 (MakerDefined 0 (record { start = 113; len = 13 })) ∷ []);
+      given = panel (first 40000000 40) (heldPair .wrap 0 (mode 1280 5 4 60) ∷ []) own;
       lent = specimen;
       before = out 128;
       number = 0;
       after = specimen;
     }
     -- a block's own record, which is written as other bytes
-    ∷ record { given = standardOf careless .edid; lent = careless; before = out 128; number = 0; after = careful }
+    ∷ anew careless careful
     -- an output of 127 bytes, which is judged first: no block gives this record either
     ∷ record { given = panel [] [] []; lent = []; before = out 127; number = 10; after = out 127 }
     -- 256 wide, 16:10 at 61 Hz, which 01 01 would be
@@ -245,19 +240,26 @@ cases =
     -- 1:1 at revision 3, before the slots, and in one
     ∷ refusal (panelOf 3 (first 40000000 40) (heldPair .wrap 0 (mode 1280 1 1 60) ∷ []) []) []
     ∷ refusal (panelOf 3 (first 40000000 40) (heldPair .wrap 2 (mode 1920 1 1 60) ∷ []) []) []
-    -- revision 4: a model year, 14 bits and interface 5, a ratio across; a depth that is reserved, and 100:100 across; an analog input, and a ratio down
-    ∷ writing (head 4 ModelYear (Interface (Depth.Bits 14) 5) (shape 178 100) (Encodings true false)) own (headBlock 0xff 4 0xd5 0x4f 0x00 0x5c)
-    ∷ writing (head 4 (Made 254) (Interface Depth.Reserved 15) (shape 100 100) (Encodings true false)) own (headBlock 0xfe 4 0xff 0x01 0x00 0x81)
-    ∷ writing (head 4 (Made 54) analog (shape 100 178) (Typed RGBColor)) own (headBlock 0x36 4 0x2d 0x00 0x4f 0xcd)
+    -- revision 4: a model year, 14 bits, 354:100 and two encodings; a reserved depth, and 100:100 across; an analog input, and a ratio down
+    ∷ writing (told 4 ModelYear (Interface (Depth.Bits 14) 5) (shape 354 100) (Encodings true true)) own (headBlock 0xff 4 0xd5 0xff 0x00 0x1a 0x9c)
+    ∷ writing (told 4 (Made 254) (Interface Depth.Reserved 15) (shape 100 100) (Encodings false true)) own (headBlock 0xfe 4 0xff 0x01 0x00 0x12 0x79)
+    ∷ writing (told 4 (Made 54) analog (shape 100 178) (Typed Monochrome)) own (headBlock 0x36 4 0x2d 0x00 0x4f 0x02 0xd5)
     -- revision 3: week 255
-    ∷ writing (head 3 (Made 255) (Digital true) (Image.Some (record { width = 320; height = 180 })) (Typed RGBColor)) own (headBlock 0xff 3 0x81 0x20 0x12 0xce)
+    ∷ writing (told 3 (Made 255) (Digital true) specimenSize (Typed RGBColor)) own (headBlock 0xff 3 0x81 0x20 0x12 0x0a 0xce)
     -- the lowest code of the offsets: none up to 255; to the upper end alone, as from 255 to 300; to both from 256 on
     ∷ writing (new 4) (ranged 2 (rates 255 255 255 255) ∷ ranged 3 (rates 255 300 255 510) ∷ ranged 4 (rates 256 255 256 510) ∷ [])
     (limitsBlock 4 (fdSlot 0x00 255 255 255 255) (fdSlot 0x0a 255 45 255 255) (fdSlot 0x0f 1 0 1 255) 0x5e)
-    -- a model year, an interface and a ratio at revision 3, each alone
+    -- a code for each axis: 2 and 3, 3 and 0, 0 and 2
+    ∷ writing (new 4) (ranged 2 (rates 50 300 256 300) ∷ ranged 3 (rates 256 300 50 75) ∷ ranged 4 (rates 50 75 50 300) ∷ [])
+    (limitsBlock 4 (fdSlot 0x0e 50 45 1 45) (fdSlot 0x03 1 45 50 75) (fdSlot 0x08 50 75 50 45) 0x71)
+    -- offset digits that are dropped: all at revision 3; at revision 4 code 1 and the digits above the codes, and 255 to 300 is written with code 2
+    ∷ anew (dropping 3 0x8f) (limitsBlock 3 (fdSlot 0x00 0 45 0 45) (fdSlot 0x00 0 45 0 45) (fdSlot 0x00 0 45 0 45) 0x91)
+    ∷ anew (dropping 4 0x8e) (limitsBlock 4 (fdSlot 0x00 0 45 0 45) (fdSlot 0x0a 255 45 255 45) (fdSlot 0x0a 0 45 255 45) 0x7f)
+    -- a model year, an interface, a ratio and encodings at revision 3, each alone
     ∷ badHead 3 ModelYear (Digital true) Image.None (Typed RGBColor)
-    ∷ badHead 3 (Made 10) (Interface (Depth.Bits 8) 5) Image.None (Typed RGBColor)
+    ∷ badHead 3 (Made 10) (Interface (Depth.Bits 8) 5) Image.None (Encodings true false)
     ∷ badHead 3 (Made 10) (Digital true) (shape 178 100) (Typed RGBColor)
+    ∷ badHead 3 (Made 10) (Digital true) Image.None (Encodings true false)
     -- week 255 and an input of revision 3 at revision 4
     ∷ badHead 4 (Made 255) (Interface (Depth.Bits 8) 5) Image.None (Encodings true false)
     ∷ badHead 4 (Made 10) (Digital true) Image.None (Typed RGBColor)
@@ -272,10 +274,10 @@ cases =
     ∷ badHead 4 (Made 10) (Interface (Depth.Bits 8) 5) (shape 178 99) (Encodings true false)
     ∷ badHead 4 (Made 10) (Interface (Depth.Bits 8) 5) (shape 355 100) (Encodings true false)
     -- 256 Hz at revision 3; 511 Hz, 511 kHz, and 256 with 254 above it, at revision 4
-    ∷ refusal (headed (old 3 (Digital true)) (ranged 2 (rates 50 256 30 80) ∷ [])) []
-    ∷ refusal (headed (new 4) (ranged 2 (rates 50 511 30 80) ∷ [])) []
-    ∷ refusal (headed (new 4) (ranged 2 (rates 50 75 30 511) ∷ [])) []
-    ∷ refusal (headed (new 4) (ranged 2 (rates 256 254 30 80) ∷ [])) []
+    ∷ refusal (panelWith (old 3 (Digital true)) (ranged 2 (rates 50 256 30 80) ∷ [])) []
+    ∷ refusal (panelWith (new 4) (ranged 2 (rates 50 511 30 80) ∷ [])) []
+    ∷ refusal (panelWith (new 4) (ranged 2 (rates 50 75 30 511) ∷ [])) []
+    ∷ refusal (panelWith (new 4) (ranged 2 (rates 256 254 30 80) ∷ [])) []
     ∷ []
 
 -- ---- what is written of each
@@ -285,10 +287,10 @@ _also_ : {P Q : Type 0} → P → Q → P × Q
 p also q = (p, q)
 
 pub all-written : All (λ c. Written (c .given) (c .lent) (c .before) (c .number) (c .after)) cases
-unfolding cases careless careful panelOf headed specimen ratioBlock headBlock limitsBlock seen body frontBytes slotBytes timingBytes filled productIn colorsIn inputOf imageOf gammaOf featuresOf flagsOf standardOf recordOf judged beforeSlots said timingIn acrossOf downOf backPorch tagOf pairOf closingRefusal rangeRefusal rangeIn limitsOf secondaryOf pointAt pointOf pointBytes
+unfolding cases careless careful panelOf panelWith specimen ratioBlock headBlock limitsBlock seen body frontBytes slotBytes timingBytes filled productIn colorsIn inputOf imageOf gammaOf featuresOf flagsOf standardOf recordOf judged beforeSlots said timingIn acrossOf downOf backPorch tagOf pairOf closingRefusal rangeRefusal rangeIn limitsOf secondaryOf pointAt pointOf pointBytes
 all-written =
-    written refl (record { bytes = bytes-by specimen refl; accepted = refl; inside = (omega arith, (omega arith, (omega arith, tt))); same = refl }) refl refl
-    also written refl (record { bytes = bytes-by careful refl; accepted = refl; inside = (omega arith, tt); same = refl }) refl refl
+    written refl (gives _ _ _ refl refl (omega arith, (omega arith, (omega arith, tt))) refl) refl refl
+    also written refl (gives _ _ _ refl refl (omega arith, tt) refl) refl refl
     also wrong-length (λ e. omega (arith, e)) refl refl
     also no-block refl (unlike _ _ (λ s. length (s .standard)) refl) refl refl
     also no-block refl (λ b g. omega (arith, g .inside .0)) refl refl
@@ -300,20 +302,24 @@ all-written =
     also no-block refl (unlike _ _ (λ s. porch (s .detailed)) refl) refl refl
     also no-block refl (unread _ _ refl) refl refl
     also no-block refl (unlike _ _ (λ s. clock (s .detailed)) refl) refl refl
-    also written refl (record { bytes = bytes-by (ratioBlock 2 0xc3) refl; accepted = refl; inside = (omega arith, (omega arith, tt)); same = refl }) refl refl
+    also written refl (gives _ _ _ refl refl (omega arith, (omega arith, tt)) refl) refl refl
     also no-block refl (unlike _ _ (λ s. ratio (s .standard)) refl) refl refl
     also no-block refl (unlike _ _ (λ s. ratio (s .standard)) refl) refl refl
     also no-block refl (unlike _ _ (λ s. length (s .standard)) refl) refl refl
     also no-block refl (unlike _ _ (λ s. ratio (s .standard)) refl) refl refl
     also no-block refl (unlike _ _ (λ s. ratio (s .standard)) refl) refl refl
-    also written refl (record { bytes = bytes-by (headBlock 0xff 4 0xd5 0x4f 0x00 0x5c) refl; accepted = refl; inside = (omega arith, (omega arith, (omega arith, tt))); same = refl }) refl refl
-    also written refl (record { bytes = bytes-by (headBlock 0xfe 4 0xff 0x01 0x00 0x81) refl; accepted = refl; inside = (omega arith, (omega arith, (omega arith, tt))); same = refl }) refl refl
-    also written refl (record { bytes = bytes-by (headBlock 0x36 4 0x2d 0x00 0x4f 0xcd) refl; accepted = refl; inside = (omega arith, (omega arith, (omega arith, tt))); same = refl }) refl refl
-    also written refl (record { bytes = bytes-by (headBlock 0xff 3 0x81 0x20 0x12 0xce) refl; accepted = refl; inside = (omega arith, (omega arith, (omega arith, tt))); same = refl }) refl refl
-    also written refl (record { bytes = bytes-by (limitsBlock 4 (fdSlot 0x00 255 255 255 255) (fdSlot 0x0a 255 45 255 255) (fdSlot 0x0f 1 0 1 255) 0x5e) refl; accepted = refl; inside = (tt, (tt, (tt, tt))); same = refl }) refl refl
+    also written refl (gives _ _ _ refl refl (omega arith, (omega arith, (omega arith, tt))) refl) refl refl
+    also written refl (gives _ _ _ refl refl (omega arith, (omega arith, (omega arith, tt))) refl) refl refl
+    also written refl (gives _ _ _ refl refl (omega arith, (omega arith, (omega arith, tt))) refl) refl refl
+    also written refl (gives _ _ _ refl refl (omega arith, (omega arith, (omega arith, tt))) refl) refl refl
+    also written refl (gives _ _ _ refl refl (tt, (tt, (tt, tt))) refl) refl refl
+    also written refl (gives _ _ _ refl refl (tt, (tt, (tt, tt))) refl) refl refl
+    also written refl (gives _ _ _ refl refl (tt, (tt, (tt, tt))) refl) refl refl
+    also written refl (gives _ _ _ refl refl (tt, (tt, (tt, tt))) refl) refl refl
     also no-block refl (unlike _ _ (λ s. weekNumber (s .front .product .week)) refl) refl refl
     also no-block refl (unlike _ _ (λ s. inputNumber (s .front .display .input)) refl) refl refl
     also no-block refl (unlike _ _ (λ s. sizeNumber (s .front .display .size)) refl) refl refl
+    also no-block refl (unlike _ _ (λ s. kindNumber (s .front .display .features .kind)) refl) refl refl
     also no-block refl (unlike _ _ (λ s. weekNumber (s .front .product .week)) refl) refl refl
     also no-block refl (unlike _ _ (λ s. inputNumber (s .front .display .input)) refl) refl refl
     also no-block refl (unlike _ _ (λ s. kindNumber (s .front .display .features .kind)) refl) refl refl

@@ -11,7 +11,6 @@ use Rattle.standard_record.specs.Seen.{seen}
 use Rattle.standard_record.specs.declared.StandardRecord.{StandardRecord}
 use Rattle.standard_record.specs.declared.HeldTiming.{HeldTiming}
 use Rattle.standard_record.specs.declared.HeldPair.{HeldPair}
-use Rattle.standard_record.specs.declared.SecondaryTiming.the-variants.{None}
 use Rattle.standard_record.specs.declared.Week.{Week}
 use Rattle.standard_record.specs.declared.Week.the-variants.{Made, ModelYear}
 use Rattle.standard_record.specs.declared.Depth.{Depth}
@@ -26,14 +25,14 @@ use Rattle.standard_record.specs.declared.Verdict.{Verdict}
 use Rattle.standard_record.specs.declared.Verdict.the-variants.{Accepted, Refused}
 use Rattle.standard_parts.specs.Text.{every}
 use Rattle.standard_reading.specs.Slots.{verdictOf}
-use Rattle.standard_reading.specs.Block.{plain}
+use Rattle.standard_reading.specs.Block.{plain, standardOf}
 use Rattle.standard_reading.specs.Judged.{end-is-verdict}
 use Rattle.write_leaf.specs.Again.{cons-bytes}
 use Rattle.write_leaf.specs.Bytes.{Bytes}
 use Rattle.write_slots.specs.Words.{Words, serial, text, range, name, undefined, makerDefined}
 use Rattle.write_block.specs.Shown.{Shown, shown}
 use Rattle.write_block.specs.Canonical.{blockOf}
-use Rattle.write_block.specs.Gives.{NoneGives}
+use Rattle.write_block.specs.Gives.{SpansInside, Gives, NoneGives}
 use Rattle.write_block.specs.Given.{same}
 use Rattle.write_block.specs.Promises.{refused-if}
 
@@ -116,10 +115,14 @@ kindNumber (Typed t) = 0
 kindNumber (Encodings a b) = 1
 
 -- bytes, by a test of each
-pub bytes-by : (s : List ℕ) → every (λ b. ltb b 256) s ≡ true → Bytes s
+bytes-by : (s : List ℕ) → every (λ b. ltb b 256) s ≡ true → Bytes s
 bytes-by [] h = λ i. omega arith
 bytes-by (x ∷ s) h = go (ltb x 256) refl h (bytes-by s)
   where
     go : (z : Bool) → ltb x 256 ≡ z → cond z (every (λ b. ltb b 256) s) false ≡ true → (every (λ b. ltb b 256) s ≡ true → Bytes s) → Bytes (x ∷ s)
     go true e h rest = cons-bytes x s (ltb-true x 256 e) (rest h)
     go false e h rest = absurd (true≢false (sym h))
+
+-- a block gives a record, by what is computed of it
+pub gives : (b : List ℕ) (r : StandardRecord) (lent : List ℕ) → every (λ b. ltb b 256) b ≡ true → standardOf b .end ≡ Accepted → SpansInside (seen r .descriptors) (length lent) → shown b (seen (standardOf b .edid)) ≡ shown lent (seen r) → Gives b r lent
+gives b r lent bytes accepted inside same = record { bytes = bytes-by b bytes; accepted = accepted; inside = inside; same = same }
