@@ -1,0 +1,3 @@
+-- What the contracts of `name_lines` cite.
+pub mod Lines
+pub mod Short

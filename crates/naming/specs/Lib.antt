@@ -1,0 +1,4 @@
+-- What the contracts of `naming` cite, and what is promised of them.
+pub mod Name
+pub mod Slots
+pub mod Promises
