@@ -2,6 +2,8 @@
  *     answers <FRAMES          a line each: refusal number, bytes taken, whether the sum is zero
  *     answers bursts <SCRIPTS  a line for each burst, what is told after it; then refusal number and bytes taken at the end, and a line `--`
  *     answers pick <FRAMES     a line each: the answer of edid_pick, then all lent numbers; before the call lent number k is 4000000000 + k
+ *     answers name <FRAMES     a line for each two of them, a panel's block and a reference block: the number, start and length of the name to show, then
+ *                              its bytes in hexadecimal, as they stand in the block, if there are any
  * A frame is its length in 16 bits, low byte first, then as many bytes, at most 4,096; a script the number of its bursts in 16 bits, then each as
  * a frame is, but of any length. For edid_pick a frame begins with the limits, the clock in 32 bits, across and down in 16 each, low byte first, and a
  * byte that says how many numbers are lent; the block follows. A block, or a burst, ends where its page ends, and so do a state and the lent numbers; the
@@ -96,10 +98,40 @@ static bool answer_pick(size_t length)
     return true;
 }
 
+static bool answer_name(size_t length)
+{
+    static uint8_t *ends[2];
+    const uint8_t *blocks[2];
+    size_t lengths[2] = {length, 0};
+    for (size_t k = 0; k < 2; k++) {
+        ends[k] = ends[k] ? ends[k] : end_of_page(LONGEST);
+        if ((k > 0 && !read_word(&lengths[k])) || !read_to(ends[k], lengths[k], LONGEST))
+            return false;
+        blocks[k] = ends[k] - lengths[k];
+    }
+    uint32_t number = edid_name_number(blocks[0], lengths[0], blocks[1], lengths[1]);
+    size_t start = edid_name_start(blocks[0], lengths[0], blocks[1], lengths[1]);
+    size_t many = edid_name_length(blocks[0], lengths[0], blocks[1], lengths[1]);
+    printf("%u %zu %zu%s", (unsigned)number, start, many, many > 0 ? " " : "");
+    for (size_t k = 0; k < many; k++)
+        printf("%02x", blocks[number == 1][start + k]);
+    putchar('\n');
+    return true;
+}
+
+static const struct {
+    const char *what;
+    bool (*answer)(size_t);
+} kinds[] = {{"", answer_frame}, {"bursts", answer_script}, {"pick", answer_pick}, {"name", answer_name}};
+
 int main(int argc, char **argv)
 {
-    const char *what = argc == 2 ? argv[1] : "";
-    bool (*answer)(size_t) = !strcmp(what, "bursts") ? answer_script : !strcmp(what, "pick") ? answer_pick : answer_frame;
+    bool (*answer)(size_t) = NULL;
+    for (size_t k = 0; k < sizeof kinds / sizeof *kinds; k++)
+        if (!strcmp(argc == 2 ? argv[1] : "", kinds[k].what))
+            answer = kinds[k].answer;
+    if (!answer)
+        return 1;
     int next;
     while ((next = getchar()) != EOF && ungetc(next, stdin) != EOF) {
         size_t word;

@@ -1,15 +1,16 @@
 /* What a controller does with the block that a panel sends: it hands on each burst as it comes, and prints what a service desk wants to
  * read. A slot of white points with one point takes 23 bytes, so a whole block may be too short: then the controller takes the
  * extension too, if byte 126 says that there is one. Which timing the board can show is by the standard reading, of the whole block, so that is awaited
- * though the first answer may be known before.
- *     controller [FILE]       as /sys/class/drm/card0-HDMI-A-1/edid; standard input where no FILE is named
+ * though the first answer may be known before. The name that it shows is the panel's, or that of the supplier's reference block.
+ *     controller [FILE [REFERENCE]]    FILE as /sys/class/drm/card0-HDMI-A-1/edid; standard input where none is named, or -
  * Exit status: 0 accepted and the checksum is right, 1 not so, 2 nothing could be read. */
 #include <stdio.h>
+#include <string.h>
 #include "edid.h"
 
 enum { BURST = 16, BLOCK = 128, EXTENSIONS = 126 };
 enum { BOARD_CLOCK = 165000000, BOARD_ACROSS = 1920, BOARD_DOWN = 1200 }; /* the most that the board can drive */
-enum { NO_TIMING = 14 };
+enum { NO_TIMING = 14, NO_NAME = 18 };
 
 #define OR_LATE ": badly written, or a slot of white points (fb) or tag 10 before it put this reading out of step; use the standard reading"
 
@@ -58,13 +59,43 @@ static void print_pick(const uint8_t *block, size_t length)
         printf("standard reading: refused with %u\n", (unsigned)number);
 }
 
+static void print_name(const uint8_t *panel, size_t length, const uint8_t *reference, size_t reference_length)
+{
+    static const char *whose[] = {"", " (of the reference)"};
+    uint32_t number = edid_name_number(panel, length, reference, reference_length);
+    if (number == NO_NAME) {
+        printf("no name\n");
+        return;
+    }
+    const uint8_t *name = (number == 0 ? panel : reference) + edid_name_start(panel, length, reference, reference_length);
+    size_t many = edid_name_length(panel, length, reference, reference_length);
+    printf("name \"");
+    for (size_t k = 0; k < many; k++)
+        putchar(name[k] >= ' ' && name[k] <= '~' ? name[k] : '?');
+    printf("\"%s\n", whose[number]);
+}
+
+/* The first block of a file; none where no file is named. */
+static size_t read_reference(const char *path, uint8_t *block)
+{
+    FILE *file = path ? fopen(path, "rb") : NULL;
+    size_t length = file ? fread(block, 1, BLOCK, file) : 0;
+    if (path && (!file || ferror(file)))
+        perror(path);
+    if (file)
+        fclose(file);
+    return length;
+}
+
 int main(int argc, char **argv)
 {
-    FILE *source = argc > 1 ? fopen(argv[1], "rb") : stdin;
+    FILE *source = argc > 1 && strcmp(argv[1], "-") ? fopen(argv[1], "rb") : stdin;
     if (!source) {
         perror(argv[1]);
         return 2;
     }
+    uint8_t reference[BLOCK];
+    size_t reference_length = read_reference(argc > 2 ? argv[2] : NULL, reference);
     uint8_t state[EDID_STATE] = {0}, burst[BURST]; /* the state begins with the bytes that came */
     size_t length = 0, wanted = BLOCK, came;
     uint32_t told;
@@ -82,6 +113,8 @@ int main(int argc, char **argv)
     uint32_t number = edid_burst_number(state);
     print_answer(number, edid_burst_taken(state));
     bool right = print_checksum(state, length);
-    print_pick(state, length < BLOCK ? length : BLOCK);
+    size_t first = length < BLOCK ? length : BLOCK;
+    print_pick(state, first);
+    print_name(state, first, reference, reference_length);
     return right && number == 0 ? 0 : 1;
 }

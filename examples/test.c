@@ -1,4 +1,4 @@
-/* Holds the answers to what is written here, over blocks made from docs/specimen.bin, at once and in bursts, and the picks of a timing.
+/* Holds the answers to what is written here, over blocks made from docs/specimen.bin, at once and in bursts, the picks of a timing, and the names to show.
  *     test FILE       the specimen
  * Exit status: 0 all answers are as written, 1 some is not. */
 #include <stdio.h>
@@ -7,7 +7,7 @@
 
 enum { BLOCK = 128, LONGER = 136 };
 
-static unsigned asked, picks, failed;
+static unsigned asked, picks, names, failed;
 
 /* In bursts of one size, an empty one before each: nothing is told before the last byte that is taken, and then the number, to the end. The byte
  * behind the state keeps its value. */
@@ -206,6 +206,73 @@ static void test_picks(const uint8_t *specimen)
     }
 }
 
+/* ---- which name to show */
+
+enum { TAG = 3, TEXT = 5, LONGEST_TEXT = 13, NO_NAME = 18 };
+
+struct part {
+    const uint8_t *block;
+    size_t length;
+};
+
+static void expect_name(const char *what, size_t at, struct part p, struct part q, uint32_t number, size_t start, size_t length)
+{
+    uint32_t its_number = edid_name_number(p.block, p.length, q.block, q.length);
+    size_t its_start = edid_name_start(p.block, p.length, q.block, q.length), its_length = edid_name_length(p.block, p.length, q.block, q.length);
+    names++;
+    if (its_number == number && its_start == start && its_length == length)
+        return;
+    failed++;
+    printf("FAILED: name, %s %zu: %u %zu %zu, wanted %u %zu %zu\n", what, at, (unsigned)its_number, its_start, its_length, (unsigned)number, start, length);
+}
+
+/* As the panel's beside no block, beside itself and beside another name, and as the reference of no block and of one without a name. */
+static void expect_named(const char *what, size_t at, const uint8_t *block, const uint8_t *other, const uint8_t *nameless, size_t start, size_t length)
+{
+    struct part one = {block, BLOCK}, two = {other, BLOCK}, without = {nameless, BLOCK}, none = {NULL, 0};
+    expect_name(what, at, one, none, 0, start, length);
+    expect_name(what, at, one, one, 0, start, length);
+    expect_name(what, at, one, two, 0, start, length);
+    expect_name(what, at, none, one, 1, start, length);
+    expect_name(what, at, without, one, 1, start, length);
+}
+
+static void test_names(const uint8_t *specimen)
+{
+    uint8_t block[LONGER] = {0}, nameless[BLOCK], longest[LONGEST_TEXT], tag = 0xfe, end = 0x0a, space = 0x20;
+    memset(longest, 'A', LONGEST_TEXT);
+    memcpy(nameless, specimen, BLOCK);
+    put(nameless, SECOND + TAG, &tag, 1);
+    struct part none = {NULL, 0}, own = {specimen, BLOCK}, without = {nameless, BLOCK};
+    expect_name("of no blocks", 0, none, none, NO_NAME, 0, 0);
+    expect_name("of none", 0, without, without, NO_NAME, 0, 0);
+    memcpy(block, specimen, BLOCK);
+    for (size_t length = 0; length <= LONGER; length++) { /* cut or too long, the one or the other is refused */
+        struct part cut = {block, length};
+        expect_name("panel cut at", length, cut, without, length == BLOCK ? 0 : NO_NAME, length == BLOCK ? 77 : 0, length == BLOCK ? 5 : 0);
+        expect_name("panel cut at", length, cut, own, length != BLOCK, 77, 5);
+        expect_name("reference cut at", length, without, cut, length == BLOCK ? 1 : NO_NAME, length == BLOCK ? 77 : 0, length == BLOCK ? 5 : 0);
+        expect_name("reference cut at", length, own, cut, 0, 77, 5);
+    }
+    for (size_t at = SECOND; at < BLOCK - SLOT; at += SLOT)
+        for (size_t length = 0; length <= LONGEST_TEXT; length++) {
+            memcpy(block, nameless, BLOCK);
+            put(block, at, (const uint8_t[]){0, 0, 0, 0xfc, 0}, TEXT);
+            put(block, at + TEXT, longest, LONGEST_TEXT);
+            for (size_t k = length; k < LONGEST_TEXT; k++)
+                put(block, at + TEXT + k, k == length ? &end : &space, 1);
+            expect_named("a length, slot", at, block, specimen, nameless, at + TEXT, length);
+            put(block, FIRST, (const uint8_t[]){0, 0}, 2); /* refused with 3: the name inside is not shown */
+            expect_name("refused, slot", at, (struct part){block, BLOCK}, own, 1, 77, 5);
+            expect_name("refused, slot", at, without, (struct part){block, BLOCK}, NO_NAME, 0, 0);
+        }
+    memcpy(block, specimen, BLOCK);
+    put(block, SECOND + 2 * SLOT, specimen + SECOND, SLOT);
+    expect_named("two names", 0, block, specimen, nameless, 77, 5);
+    put(block, SECOND + TAG, &tag, 1);
+    expect_named("the last slot", 0, block, specimen, nameless, 113, 5);
+}
+
 int main(int argc, char **argv)
 {
     uint8_t block[LONGER];
@@ -218,6 +285,7 @@ int main(int argc, char **argv)
     for (size_t length = 0; length <= BLOCK; length++)
         expect("cut at", length, block, length, length < 127, length < 127 ? length : 127);
     test_picks(block);
+    test_names(block);
     for (size_t i = 0; i < sizeof changed / sizeof *changed; i++) {
         uint8_t *byte = &block[changed[i].at], kept = *byte;
         *byte = changed[i].byte;
@@ -227,6 +295,6 @@ int main(int argc, char **argv)
     memcpy(block + 108, white, sizeof white);
     for (size_t length = BLOCK; length <= LONGER; length++)
         expect("white points, cut at", length, block, length, length < 132, length < 132 ? length : 132);
-    printf("C: %u blocks, each also in bursts of every size, and %u picks of a timing, %u answered otherwise than written\n", asked, picks, failed);
+    printf("C: %u blocks, each also in bursts of every size, %u picks of a timing and %u names, %u answered otherwise than written\n", asked, picks, names, failed);
     return failed != 0;
 }

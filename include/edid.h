@@ -1,10 +1,10 @@
-/* The crate reading's answers on one EDID block, at once or in bursts, and which timing of it to show, by the standard reading, for C on x86-64: link
- * target/staticlib/libexports.a, which `rt staticlib exports` proves and makes.
+/* The crate reading's answers on one EDID block, at once or in bursts, and, by the standard reading, which timing of it to show and which name, for C on
+ * x86-64: link target/staticlib/libexports.a, which `rt staticlib exports` proves and makes.
  *
  * Each function reads the bytes that it is handed and nothing else, keeps nothing, and ends for every length and all bytes; edid_burst writes the
  * state, edid_pick the numbers lent to it, and no other writes anything. The caller promises that these bytes can be read, and the state of edid_burst
  * and the numbers of edid_pick written, and that nobody else touches them meanwhile. With length 0 nothing is read through the pointer; of no block the
- * answers are 1, 0 and true, and edid_pick's is 7, or 10. That is proved of a pointer that is not null; of a null pointer with length 0 it is tested by
+ * answers are 1, 0 and true, edid_pick's is 7, or 10, and it has no name. That is proved of a pointer that is not null; of a null pointer with length 0 it is tested by
  * tools/test-c. */
 #ifndef EDID_H
 #define EDID_H
@@ -76,6 +76,20 @@ enum { EDID_NUMBERS = 14 };
  * are lent; 7 the length is not 128; 2 another header; 8 the bytes do not add up to zero; 9 the version is not 1; then, slot after slot, 3 no timing in the
  * first, 4 no 0x0a (in GTF: no 0x00) where one is due, 5 no 0x20 (behind a text: nor 0x00), 6 a back porch below zero; 14 no timing can be shown. */
 uint32_t edid_pick(const uint8_t *block, size_t length, uint32_t clock, uint16_t across, uint16_t down, uint32_t *numbers, size_t count);
+
+/* ---- which name to show
+ *
+ * Of a panel's block and a reference block, the name of the first that has one. A block's name is the text of its first slot with tag 0xfc, up to the
+ * byte 0x0a, also where there are no bytes before it; a block that the standard reading refuses has none, as one whose length is not 128. Where the panel
+ * has a name, the reference is not looked at; the two may be the same bytes. */
+
+/* 0 where it is the panel's, 1 where it is the reference's, 18 where neither block has one. */
+uint32_t edid_name_number(const uint8_t *panel, size_t panel_length, const uint8_t *reference, size_t reference_length);
+
+/* Where in that block the text begins, 77, 95 or 113, and how many bytes it has, 0 to 13: any but 0x0a, so a zero may be among them, and none ends
+ * them. Both are 0 where neither block has one. */
+size_t edid_name_start(const uint8_t *panel, size_t panel_length, const uint8_t *reference, size_t reference_length);
+size_t edid_name_length(const uint8_t *panel, size_t panel_length, const uint8_t *reference, size_t reference_length);
 
 #ifdef __cplusplus
 }

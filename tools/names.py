@@ -1,5 +1,6 @@
 """What the frames of names are made of: blocks with fc texts in some slots, and blocks that are refused for one thing."""
-from blocks import FIRST, LATER, SPECIMEN, TELLING, any_timing, below, block, changed, descriptor, limits, noise, pairs, restructured, summed, tagged, text, timing
+from blocks import (FIRST, LATER, SPECIMEN, TELLING, any_limits, any_timing, below, block, changed, descriptor, limits, noise, pairs, restructured, summed,
+                    tagged, text, timing)
 
 FC = 0xFC
 # parts that the standard reading refuses: 3, 6, 6, 4, 5, 4, 5
@@ -22,7 +23,7 @@ def other_slot():
     """A later slot without a name: a timing, also with fc where a tag would stand, or a descriptor."""
     if below(4) == 0:
         return changed(any_timing(), 3, FC) if below(2) else any_timing()
-    return tagged(one_of([tag for tag in (*TELLING, below(256)) if tag != FC]))
+    return any_limits() if below(8) == 0 else tagged(one_of([tag for tag in (*TELLING, below(256)) if tag != FC]))
 
 
 def any_block():

@@ -14,13 +14,9 @@ use Rattle.standard_slots.specs.Said.{Said, refusal}
 use Rattle.standard_reading.specs.Slots.{start, saidIn, judge, judged, verdictOf}
 use Rattle.standard_reading.specs.Judged.{end-is-verdict, accepted-before, accepted-slot}
 use Rattle.naming.specs.Name.{textsOf, first, unlessRefused, nameOf}
-use Rattle.naming.specs.Slots.{names, earlier, names-are}
+use Rattle.naming.specs.Slots.{names, earlier, first-append, names-are}
 use Rattle.naming.specs.declared.Named.{Named}
 use Rattle.naming.specs.declared.Named.the-variants.{Not, By}
-
-first-append : (ts us : List Span) → first (ts ++ us) ≡ earlier (first ts) us
-first-append [] us = refl
-first-append (t ∷ ts) us = refl
 
 module _ (s : List ℕ) where
   -- the first i slots are not refused, and this is the first name in them

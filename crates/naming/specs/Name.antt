@@ -21,13 +21,17 @@ use Rattle.naming.specs.declared.Shown.the-variants.{Panel, Reference, N
 
 -- ---- of one block
 
--- a slot of 18 bytes holds a name: it is no timing, and its tag is fc
+-- the 18 bytes of slot i
+abbrev pub slot : List ℕ → ℕ → List ℕ
+slot s i = part s (start i) 18
+
+-- a slot holds a name: it is no timing, and its tag is fc
 abbrev pub isNamed : List ℕ → Bool
 isNamed t = eqb (clockIn t) 0 && eqb (t ! 3) 0xfc
 
 -- the fc texts of the first n slots, in their order
 abbrev pub textsOf : List ℕ → ℕ → List Span
-textsOf s n = gather (λ i. let t = part s (start i) 18 in when (isNamed t) (textIn t (start i))) n
+textsOf s n = gather (λ i. when (isNamed (slot s i)) (textIn (slot s i) (start i))) n
 
 abbrev pub first : List Span → Named
 first [] = Not

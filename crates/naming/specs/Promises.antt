@@ -1,12 +1,17 @@
 -- What holds of the name of every block, and of what is shown of every two.
 use Prim.Native.Nat.{ℕ, zero, suc, _+_, _≤_, _<_}
 use mathlib.Core.Path.{_≡_, refl, sym, ap, _∙_}
+use mathlib.Core.Bool.{Bool, true, false, false≢true}
 use mathlib.Core.List.{List, [], _∷_, _++_, map, append-nil, append-assoc}
 use native.Mathlib.Omega.{arith}
 use denote.Ref.{RefT, ptr, now}
+use lib.Dec.{eqb}
 use lib.ListN.{length, length-take, length-drop}
+use borrow.Author.Tests.{eqb-true, eqb-false}
 use Rattle.bits.specs.Bytes.{part}
+use Rattle.fixed.specs.Gather.{gather, when}
 use Rattle.steps.specs.declared.Span.{Span}
+use Rattle.steps.specs.declared.Refusal.{Refusal}
 use Rattle.steps.specs.Spans.{Text}
 use Rattle.standard_record.specs.Filler.{blank}
 use Rattle.standard_record.specs.Held.{held}
@@ -15,14 +20,16 @@ use Rattle.standard_record.specs.declared.Descriptor.{Descriptor}
 use Rattle.standard_record.specs.declared.Held.{Held}
 use Rattle.standard_record.specs.declared.Verdict.{Verdict}
 use Rattle.standard_record.specs.declared.Verdict.the-variants.{Accepted, Refused}
-use Rattle.standard_slots.specs.Said.{Said, refusal, nothing, timing, pairs, points, described, lists}
+use Rattle.standard_timing.specs.Timing.{clockIn}
+use Rattle.standard_verdict.specs.Verdict.{refusedAt}
+use Rattle.standard_slots.specs.Said.{Said, refusal, nothing, timing, pairs, points, described, textIn, lists, said}
 use Rattle.standard_slots.specs.Spans.{Sound, Sounds}
-use Rattle.standard_reading.specs.Slots.{start, saidIn, verdictOf}
+use Rattle.standard_reading.specs.Slots.{start, saidIn, judge, verdictOf}
 use Rattle.standard_reading.specs.Block.{descriptorsOf, plain, recordOf, beside, standardOf}
 use Rattle.standard_reading.specs.Judged.{end-is-verdict, accepted-has-128, accepted-slot, sounds}
 use Rattle.standard_reading.specs.Room.{fits, accepted}
-use Rattle.naming.specs.Name.{textsOf, first, unlessRefused, nameOf, shown, shownOf, numberOf, placeOf, from, IsPart, IsShown}
-use Rattle.naming.specs.Slots.{nameAs, names, names-are}
+use Rattle.naming.specs.Name.{slot, isNamed, textsOf, first, unlessRefused, nameOf, shown, shownOf, numberOf, placeOf, from, IsPart, IsShown}
+use Rattle.naming.specs.Slots.{nameAs, names, earlier, first-append, names-are}
 use Rattle.naming.specs.declared.Named.{Named}
 use Rattle.naming.specs.declared.Named.the-variants.{Not, By}
 use Rattle.naming.specs.declared.Shown.{Shown}
@@ -64,6 +71,58 @@ listed-first s = go (verdictOf s) refl
     go Accepted e =
         ap first (sym (names-after s (end-is-verdict s ∙ e) 4 (omega arith))) ∙ ap (λ x. first (namesIn (x .descriptors))) (sym (shows (plain s) (fits s)))
     go (Refused f) e = refl
+
+-- ---- it stands in the first slot with tag fc
+
+-- of the slots behind the first, where the block is accepted
+pub data Stands (s : List ℕ) : Named → Type 0 where
+  in-slot : (i : ℕ) → 1 ≤ i → i < 4 → isNamed (slot s i) ≡ true → ((j : ℕ) → j < i → isNamed (slot s j) ≡ false) → Stands s (By (textIn (slot s i) (start i)))
+  in-none : ((j : ℕ) → j < 4 → isNamed (slot s j) ≡ false) → Stands s Not
+  refused : (f : Refusal) → verdictOf s ≡ Refused f → Stands s Not
+
+-- of any test
+data First (f : ℕ → Bool) (g : ℕ → Span) (n : ℕ) : Named → Type 0 where
+  found : (i : ℕ) → i < n → f i ≡ true → ((j : ℕ) → j < i → f j ≡ false) → First f g n (By (g i))
+  none : ((j : ℕ) → j < n → f j ≡ false) → First f g n Not
+
+one-more : {f : ℕ → Bool} {g : ℕ → Span} {n : ℕ} {name : Named} (b : Bool) → f n ≡ b → First f g n name → First f g (suc n) (earlier name (when b (g n)))
+one-more b e (found i h t before) = found i (omega arith) t before
+one-more {n = n} true e (none before) = found n (omega arith) e before
+one-more {f} {n = n} false e (none before) = none (λ j h. go j h (eqb j n) refl)
+  where
+    go : (j : ℕ) → j < suc n → (b : Bool) → eqb j n ≡ b → f j ≡ false
+    go j h true p = rw (eqb-true j n p) e
+    go j h false p = before j (omega (arith, eqb-false j n p))
+
+first-is : (f : ℕ → Bool) (g : ℕ → Span) (n : ℕ) → First f g n (first (gather (λ i. when (f i) (g i)) n))
+first-is f g zero = none (λ j h. absurd (omega arith))
+first-is f g (suc n) = rw first-append (one-more (f n) refl (first-is f g n))
+
+-- the first slot of a block that is accepted is a timing
+first-timing : (s : List ℕ) → standardOf s .end ≡ Accepted → isNamed (slot s 0) ≡ false
+unfolding said
+first-timing s e = go (eqb (clockIn (slot s 0)) 0) refl (accepted-slot s e 0 (omega arith))
+  where
+    go : (b : Bool) → eqb (clockIn (slot s 0)) 0 ≡ b → judge (saidIn s 0) (start 0) ≡ Accepted → isNamed (slot s 0) ≡ false
+    go true p a = let r : refusedAt 3 54 ≡ Accepted = rw p at a in cc
+    go false p a = rw p
+
+pub stands : (s : List ℕ) → Stands s (nameOf s)
+unfolding nameOf
+stands s = go (verdictOf s) refl (first-is (λ i. isNamed (slot s i)) (λ i. textIn (slot s i) (start i)) 4)
+  where
+    -- the slot is not the first
+    later : (i : ℕ) → isNamed (slot s i) ≡ true → isNamed (slot s 0) ≡ false → 1 ≤ i
+    later zero t h = absurd (false≢true (sym h ∙ t))
+    later (suc i) t h = omega arith
+
+    by : standardOf s .end ≡ Accepted → {name : Named} → First (λ i. isNamed (slot s i)) (λ i. textIn (slot s i) (start i)) 4 name → Stands s name
+    by a (found i h t before) = in-slot i (later i t (first-timing s a)) h t before
+    by a (none before) = in-none before
+
+    go : (v : Verdict) → verdictOf s ≡ v → First (λ i. isNamed (slot s i)) (λ i. textIn (slot s i) (start i)) 4 (first (textsOf s 4)) → Stands s (unlessRefused v (first (textsOf s 4)))
+    go Accepted e h = by (end-is-verdict s ∙ e) h
+    go (Refused f) e h = refused f e
 
 -- ---- it is a text within the block
 

@@ -2,7 +2,7 @@
 use Prim.Native.Nat.{ℕ}
 use mathlib.Core.Path.{_≡_, refl}
 use mathlib.Core.Bool.{Bool, true, false, cond, _&&_}
-use mathlib.Core.List.{List, [], _∷_}
+use mathlib.Core.List.{List, [], _∷_, _++_}
 use lib.Dec.{eqb, ltb}
 use borrow.Author.Tests.{eqb-true}
 use Rattle.bits.specs.Bytes.{_!_, part}
@@ -37,6 +37,10 @@ nameAs (Descriptor.MakerDefined tag d) = []
 abbrev pub earlier : Named → List Span → Named
 earlier (By t) ts = By t
 earlier Not ts = first ts
+
+pub first-append : (ts us : List Span) → first (ts ++ us) ≡ earlier (first ts) us
+first-append [] us = refl
+first-append (t ∷ ts) us = refl
 
 -- ---- by the tag
 
