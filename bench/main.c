@@ -18,6 +18,11 @@ static uint64_t pick(const uint8_t *block, size_t length)
     return edid_pick(block, length, 165000000, 1920, 1200, numbers, EDID_NUMBERS);
 }
 
+/* The block is the panel's and the reference too: the second is read only where the first has no name. */
+static uint64_t name_number(const uint8_t *block, size_t length) { return edid_name_number(block, length, block, length); }
+static uint64_t name_start(const uint8_t *block, size_t length) { return edid_name_start(block, length, block, length); }
+static uint64_t name_length(const uint8_t *block, size_t length) { return edid_name_length(block, length, block, length); }
+
 /* The writer has its output lent: its sides are called through these two. */
 typedef uint8_t writer(const uint8_t *block, size_t length, uint8_t *out, size_t size);
 extern writer written_once, written_twice;
@@ -52,6 +57,9 @@ static const struct {
     {"bytes_taken", bytes_taken},
     {"sum_is_zero", sum_is_zero},
     {"pick", pick},
+    {"name_number", name_number},
+    {"name_start", name_start},
+    {"name_length", name_length},
     {"one_burst", one_burst},
     {"bursts_of_8", bursts_of_8},
     {"byte_by_byte", byte_by_byte},

@@ -1,8 +1,8 @@
 /* What a controller does with the block that a panel sends: it hands on each burst as it comes, and prints what a service desk wants to
  * read. A slot of white points with one point takes 23 bytes, so a whole block may be too short: then the controller takes the
  * extension too, if byte 126 says that there is one. Which timing the board can show is by the standard reading, of the whole block, so that is awaited
- * though the first answer may be known before. The name that it shows is the panel's, or that of the supplier's reference block.
- *     controller [FILE [REFERENCE]]    FILE as /sys/class/drm/card0-HDMI-A-1/edid; standard input where none is named, or -
+ * though the first answer may be known before. The name is the panel's, or that of the supplier's reference block, the first 128 bytes of REFERENCE.
+ *     controller [FILE [REFERENCE]]    FILE as /sys/class/drm/card0-HDMI-A-1/edid; standard input where it is - or not named
  * Exit status: 0 accepted and the checksum is right, 1 not so, 2 nothing could be read. */
 #include <stdio.h>
 #include <string.h>
@@ -75,16 +75,17 @@ static void print_name(const uint8_t *panel, size_t length, const uint8_t *refer
     printf("\"%s\n", whose[number]);
 }
 
-/* The first block of a file; none where no file is named. */
-static size_t read_reference(const char *path, uint8_t *block)
+/* The first block of a file; whether it could be read. */
+static bool read_reference(const char *path, uint8_t *block, size_t *length)
 {
-    FILE *file = path ? fopen(path, "rb") : NULL;
-    size_t length = file ? fread(block, 1, BLOCK, file) : 0;
-    if (path && (!file || ferror(file)))
+    FILE *file = fopen(path, "rb");
+    *length = file ? fread(block, 1, BLOCK, file) : 0;
+    bool could = file && !ferror(file);
+    if (!could)
         perror(path);
     if (file)
         fclose(file);
-    return length;
+    return could;
 }
 
 int main(int argc, char **argv)
@@ -95,7 +96,9 @@ int main(int argc, char **argv)
         return 2;
     }
     uint8_t reference[BLOCK];
-    size_t reference_length = read_reference(argc > 2 ? argv[2] : NULL, reference);
+    size_t reference_length = 0;
+    if (argc > 2 && !read_reference(argv[2], reference, &reference_length))
+        return 2;
     uint8_t state[EDID_STATE] = {0}, burst[BURST]; /* the state begins with the bytes that came */
     size_t length = 0, wanted = BLOCK, came;
     uint32_t told;

@@ -243,16 +243,16 @@ static void test_names(const uint8_t *specimen)
     memset(longest, 'A', LONGEST_TEXT);
     memcpy(nameless, specimen, BLOCK);
     put(nameless, SECOND + TAG, &tag, 1);
-    struct part none = {NULL, 0}, own = {specimen, BLOCK}, without = {nameless, BLOCK};
+    struct part none = {NULL, 0}, lobby = {specimen, BLOCK}, without = {nameless, BLOCK};
     expect_name("of no blocks", 0, none, none, NO_NAME, 0, 0);
     expect_name("of none", 0, without, without, NO_NAME, 0, 0);
     memcpy(block, specimen, BLOCK);
     for (size_t length = 0; length <= LONGER; length++) { /* cut or too long, the one or the other is refused */
         struct part cut = {block, length};
         expect_name("panel cut at", length, cut, without, length == BLOCK ? 0 : NO_NAME, length == BLOCK ? 77 : 0, length == BLOCK ? 5 : 0);
-        expect_name("panel cut at", length, cut, own, length != BLOCK, 77, 5);
+        expect_name("panel cut beside a name, at", length, cut, lobby, length != BLOCK, 77, 5);
         expect_name("reference cut at", length, without, cut, length == BLOCK ? 1 : NO_NAME, length == BLOCK ? 77 : 0, length == BLOCK ? 5 : 0);
-        expect_name("reference cut at", length, own, cut, 0, 77, 5);
+        expect_name("reference cut beside a name, at", length, lobby, cut, 0, 77, 5);
     }
     for (size_t at = SECOND; at < BLOCK - SLOT; at += SLOT)
         for (size_t length = 0; length <= LONGEST_TEXT; length++) {
@@ -263,8 +263,8 @@ static void test_names(const uint8_t *specimen)
                 put(block, at + TEXT + k, k == length ? &end : &space, 1);
             expect_named("a length, slot", at, block, specimen, nameless, at + TEXT, length);
             put(block, FIRST, (const uint8_t[]){0, 0}, 2); /* refused with 3: the name inside is not shown */
-            expect_name("refused, slot", at, (struct part){block, BLOCK}, own, 1, 77, 5);
-            expect_name("refused, slot", at, without, (struct part){block, BLOCK}, NO_NAME, 0, 0);
+            expect_name("panel refused, slot", at, (struct part){block, BLOCK}, lobby, 1, 77, 5);
+            expect_name("reference refused, slot", at, without, (struct part){block, BLOCK}, NO_NAME, 0, 0);
         }
     memcpy(block, specimen, BLOCK);
     put(block, SECOND + 2 * SLOT, specimen + SECOND, SLOT);
@@ -295,6 +295,7 @@ int main(int argc, char **argv)
     memcpy(block + 108, white, sizeof white);
     for (size_t length = BLOCK; length <= LONGER; length++)
         expect("white points, cut at", length, block, length, length < 132, length < 132 ? length : 132);
-    printf("C: %u blocks, each also in bursts of every size, %u picks of a timing and %u names, %u answered otherwise than written\n", asked, picks, names, failed);
+    printf("C: %u blocks, each also in bursts of every size, %u picks of a timing and %u names, %u answered otherwise than written\n", asked, picks, names,
+           failed);
     return failed != 0;
 }

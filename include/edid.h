@@ -1,11 +1,12 @@
 /* The crate reading's answers on one EDID block, at once or in bursts, and, by the standard reading, which timing of it to show and which name, for C on
- * x86-64: link target/staticlib/libexports.a, which `rt staticlib exports` proves and makes.
+ * x86-64: link target/staticlib/libexports.a, and for the name target/staticlib/libname_exports.a, which `rt staticlib exports` and
+ * `rt staticlib name_exports` prove and make.
  *
  * Each function reads the bytes that it is handed and nothing else, keeps nothing, and ends for every length and all bytes; edid_burst writes the
  * state, edid_pick the numbers lent to it, and no other writes anything. The caller promises that these bytes can be read, and the state of edid_burst
  * and the numbers of edid_pick written, and that nobody else touches them meanwhile. With length 0 nothing is read through the pointer; of no block the
- * answers are 1, 0 and true, edid_pick's is 7, or 10, and it has no name. That is proved of a pointer that is not null; of a null pointer with length 0 it is tested by
- * tools/test-c. */
+ * answers are 1, 0 and true, and edid_pick's is 7, or 10; no block has no name. That is proved of a pointer that is not null; of a null pointer with
+ * length 0 it is tested by tools/test-c. */
 #ifndef EDID_H
 #define EDID_H
 #include <stdbool.h>
@@ -81,13 +82,13 @@ uint32_t edid_pick(const uint8_t *block, size_t length, uint32_t clock, uint16_t
  *
  * Of a panel's block and a reference block, the name of the first that has one. A block's name is the text of its first slot with tag 0xfc, up to the
  * byte 0x0a, also where there are no bytes before it; a block that the standard reading refuses has none, as one whose length is not 128. Where the panel
- * has a name, the reference is not looked at; the two may be the same bytes. */
+ * has a name, the reference is of no account; the two may be the same bytes. */
 
 /* 0 where it is the panel's, 1 where it is the reference's, 18 where neither block has one. */
 uint32_t edid_name_number(const uint8_t *panel, size_t panel_length, const uint8_t *reference, size_t reference_length);
 
-/* Where in that block the text begins, 77, 95 or 113, and how many bytes it has, 0 to 13: any but 0x0a, so a zero may be among them, and none ends
- * them. Both are 0 where neither block has one. */
+/* Where in that block the text begins, 77, 95 or 113, and how many bytes it has, 0 to 13: any but 0x0a, also 0x00, and no 0x00 closes them. Where neither
+ * block has a name, both are 0. */
 size_t edid_name_start(const uint8_t *panel, size_t panel_length, const uint8_t *reference, size_t reference_length);
 size_t edid_name_length(const uint8_t *panel, size_t panel_length, const uint8_t *reference, size_t reference_length);
 

@@ -63,19 +63,21 @@ tell() {
     done
 }
 
-# target/staticlib/libexports.a, made anew where its crate was proved after it.
-archive() {
-    prove exports
-    [ -e target/stamp/exports ] && [ target/staticlib/libexports.a -nt target/stamp/exports ] || quietly rt staticlib exports
+# The archives for C, target/staticlib/libexports.a and libname_exports.a, each made anew where its crate was proved after it.
+archives() {
+    for crate in exports name_exports; do
+        prove $crate
+        [ -e target/stamp/$crate ] && [ target/staticlib/lib$crate.a -nt target/stamp/$crate ] || quietly rt staticlib $crate
+    done
 }
 
-# Compiles examples/PROGRAM.c with the archive to target/c/PROGRAM; -static: no C library of x86-64 is needed to run it.
+# Compiles examples/PROGRAM.c with the archives to target/c/PROGRAM; -static: no C library of x86-64 is needed to run it.
 link_c() { # PROGRAM..
     want $cc $cc_packages
-    archive
+    archives
     mkdir -p target/c
     for program in "$@"; do
-        $cc -std=c11 -Wall -Wextra -Wpedantic -Werror -O2 -static -Iinclude -o "target/c/$program" "examples/$program.c" target/staticlib/libexports.a
+        $cc -std=c11 -Wall -Wextra -Wpedantic -Werror -O2 -static -Iinclude -o "target/c/$program" "examples/$program.c" target/staticlib/libexports.a target/staticlib/libname_exports.a
     done
 }
 

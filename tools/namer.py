@@ -34,5 +34,5 @@ def answer(blocks):
 
 if __name__ == "__main__":
     blocks = frames(sys.stdin.buffer)
-    for pair in zip(blocks, blocks):
+    for pair in zip(blocks, blocks, strict=True):
         print(answer(pair), "--\n", sep="", end="")

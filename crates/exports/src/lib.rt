@@ -19,8 +19,6 @@ ghost use Rattle.bursts.specs.Bursts.{told, held, stage, standing, grow};
 ghost use Rattle.standard_reading.specs.Block.{standardOf};
 ghost use Rattle.picking.specs.Best.{listed};
 ghost use Rattle.picking.specs.Score.{choice};
-ghost use Rattle.naming.specs.Name as naming;
-ghost use Rattle.naming.specs.Name.{shownOf, placeOf};
 ghost use Rattle.exports.specs.Numbers.{numberOf, numberTold};
 ghost use Rattle.exports.specs.Pick.{shown, pickOf};
 
@@ -149,31 +147,4 @@ pub extern "C" fn edid_pick(
         Verdict::Refused(f) => f.number as u32,
         Verdict::Accepted => show(limits, reading.edid.timings.detailed, numbers),
     }
-}
-
-// ---- of the name to show
-
-// 0 where it is the panel's, 1 where it is the reference's, 18 where neither block has one.
-#[no_mangle]
-pub extern "C" fn edid_name_number(panel: &[u8], reference: &[u8]) -> u32
-    ensures { λ r. ⌜ r ≡ naming.numberOf (shownOf (now (panel .entry)) (now (reference .entry))) ⌝ }
-{
-    naming::number(panel, reference) as u32
-}
-
-// Where in its block it begins.
-#[no_mangle]
-pub extern "C" fn edid_name_start(panel: &[u8], reference: &[u8]) -> usize
-    ensures { λ r. ⌜ r ≡ placeOf (shownOf (now (panel .entry)) (now (reference .entry))) .start ⌝ }
-{
-    naming::start(panel, reference)
-}
-
-// And how many bytes it has.
-#[no_mangle]
-pub extern "C" fn edid_name_length<'a>(panel: &'a [u8], reference: &'a [u8]) -> usize
-    ensures { λ r. ⌜ r ≡ placeOf (shownOf (now (panel .entry)) (now (reference .entry))) .len ⌝ }
-{
-    let name = naming::name(panel, reference);
-    name.len()
 }

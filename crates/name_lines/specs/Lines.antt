@@ -4,7 +4,7 @@ use mathlib.Core.List.{List, [], _∷_}
 use lib.ListN.{length}
 use Rattle.bits.specs.Bytes.{part}
 use Rattle.page.specs.Words.{text, space, newline, field, hexOf2, flat, each}
-use Rattle.naming.specs.Name.{shownOf, placeOf}
+use Rattle.naming.specs.Name.{shownOf}
 use Rattle.naming.specs.declared.Shown.{Shown}
 use Rattle.naming.specs.declared.Shown.the-variants.{Panel, Reference, Neither}
 

@@ -10,7 +10,7 @@ use Rattle.page.specs.Words.{text, hexOf2, flat, each}
 use Rattle.page.specs.Short.{field-length, byte-length, first-length}
 use Rattle.page.specs.Meaning.{whole, only}
 use Rattle.naming.specs.Name.{nameOf, shown}
-use Rattle.naming.specs.Promises.{SoundName, sound-name}
+use Rattle.naming.specs.Listed.{SoundName, sound-name}
 use Rattle.naming.specs.declared.Named.{Named}
 use Rattle.naming.specs.declared.Named.the-variants.{Not, By}
 use Rattle.name_lines.specs.Lines.{run, nameLine, shownLine, answer}
@@ -18,7 +18,9 @@ use Rattle.name_lines.specs.Lines.{run, nameLine, shownLine, answer}
 run-length : (name : List ℕ) → length name ≤ 13 → length (run name) ≤ 27
 unfolding run flat
 run-length [] h = omega arith
-run-length (b ∷ bs) h = let l : length (each hexOf2 (b ∷ bs)) ≤ 26 = rw (take-all 13 (b ∷ bs) h) at (first-length hexOf2 2 13 byte-length 13 (b ∷ bs)) in simp length-append (omega arith)
+run-length (b ∷ bs) h =
+    let l : length (each hexOf2 (b ∷ bs)) ≤ 26 = rw (take-all 13 (b ∷ bs) h) at (first-length hexOf2 2 13 byte-length 13 (b ∷ bs)) in
+    simp length-append (omega arith)
 
 line-length : (whose : List ℕ) (start : ℕ) (name : List ℕ) → length whose ≤ 9 → length name ≤ 13 → length (nameLine whose start name) ≤ 79
 unfolding nameLine flat

@@ -62,7 +62,13 @@ name-is-fc n = go (eqb n 0xfc) refl
     go true p = rw (eqb-true n 0xfc p) refl
     go false p =
         let no : Tag → Type 0 = λ x. isName x ≡ false in
-        rw p (either no (eqb n 0x10) refl (either no (eqb n 0xfa) refl (either no (eqb n 0xfb) refl (either no (eqb n 0xfd) refl (either no (eqb n 0xfe) refl (either no (eqb n 0xff) refl refl))))))
+        rw p
+        (either no (eqb n 0x10) refl
+        (either no (eqb n 0xfa) refl
+        (either no (eqb n 0xfb) refl
+        (either no (eqb n 0xfd) refl
+        (either no (eqb n 0xfe) refl
+        (either no (eqb n 0xff) refl refl))))))
 
 -- ---- what a slot says
 

@@ -13,7 +13,8 @@ returns c =
     let n = i .before in
     let s = n .before in
     let k = s .before in
-    rw (← panels _ _ _ (shownOf (now (k .before .before .before .args .panel)) (now (k .before .before .before .args .reference))) (sym (k .number .ensures) ∙ i .if1 .taken) (n .name .ensures), ← s .start .ensures)
+    let a = k .before .before .before .args in
+    rw (← panels _ _ _ (shownOf (now (a .panel)) (now (a .reference))) (sym (k .number .ensures) ∙ i .if1 .taken) (n .name .ensures), ← s .start .ensures)
     (c .name-line .ensures)
 
 returns-2 : tie.Need-returns-2
@@ -22,7 +23,8 @@ returns-2 c =
     let n = j .before .before in
     let s = n .before in
     let k = s .before in
-    rw (← references _ _ _ (shownOf (now (k .before .before .before .args .panel)) (now (k .before .before .before .args .reference))) (sym (k .number .ensures) ∙ j .if2 .taken) (n .name .ensures), ← s .start .ensures)
+    let a = k .before .before .before .args in
+    rw (← references _ _ _ (shownOf (now (a .panel)) (now (a .reference))) (sym (k .number .ensures) ∙ j .if2 .taken) (n .name .ensures), ← s .start .ensures)
     (c .name-line2 .ensures)
 
 returns-3 : tie.Need-returns-3

@@ -9,12 +9,14 @@ use Rattle.naming.proofs.name.Tie as tie
 part-of-requires : tie.Need-part-of-requires
 part-of-requires c κs =
     let f = c .before .before .before in
-    rw (sym (f .found .ensures) ∙ c .before .t .given .1) at (within (now (f .before .before .before .args .panel)) (now (f .before .before .before .args .reference)))
+    let a = f .before .before .before .args in
+    rw (sym (f .found .ensures) ∙ c .before .t .given .1) at (within (now (a .panel)) (now (a .reference)))
 
 part-of-requires-2 : tie.Need-part-of-requires-2
 part-of-requires-2 c κs =
     let f = c .before .before .before in
-    rw (sym (f .found .ensures) ∙ c .before .t2 .given .1) at (within (now (f .before .before .before .args .panel)) (now (f .before .before .before .args .reference)))
+    let a = f .before .before .before .args in
+    rw (sym (f .found .ensures) ∙ c .before .t2 .given .1) at (within (now (a .panel)) (now (a .reference)))
 
 returns : tie.Need-returns
 returns c = let b = c .before .before in rw (sym (b .before .before .found .ensures) ∙ b .t .given .1) (c .part-of .ensures)
