@@ -4,8 +4,8 @@
  *
  * Each function reads the bytes that it is handed and nothing else, keeps nothing, and ends for every length and all bytes; edid_burst writes the
  * state, edid_pick the numbers lent to it, and no other writes anything. The caller promises that these bytes can be read, and the state of edid_burst
- * and the numbers of edid_pick written, and that nobody else touches them meanwhile. With length 0 nothing is read through the pointer; of no block the
- * answers are 1, 0 and true, and edid_pick's is 7, or 10; no block has no name. That is proved of a pointer that is not null; of a null pointer with
+ * and the numbers of edid_pick written, and that nobody else touches them meanwhile. Of a block of length 0 nothing is read through the pointer, and the
+ * answers are 1, 0 and true, edid_pick's is 7, or 10, and there is no name in it. That is proved of a pointer that is not null; of a null pointer with
  * length 0 it is tested by tools/test-c. */
 #ifndef EDID_H
 #define EDID_H
@@ -80,9 +80,9 @@ uint32_t edid_pick(const uint8_t *block, size_t length, uint32_t clock, uint16_t
 
 /* ---- which name to show
  *
- * Of a panel's block and a reference block, the name of the first that has one. A block's name is the text of its first slot with tag 0xfc, up to the
- * byte 0x0a, also where there are no bytes before it; a block that the standard reading refuses has none, as one whose length is not 128. Where the panel
- * has a name, the reference is of no account; the two may be the same bytes. */
+ * Of a panel's block and a reference block, the name of the first that has one. A block's name is the text of its first slot with tag 0xfc: the bytes
+ * before the first 0x0a, also where there are none, or all thirteen. A block that the standard reading refuses has no name, as one whose length is not 128.
+ * Where the panel has a name, the reference is of no account; the two may be the same bytes. */
 
 /* 0 where it is the panel's, 1 where it is the reference's, 18 where neither block has one. */
 uint32_t edid_name_number(const uint8_t *panel, size_t panel_length, const uint8_t *reference, size_t reference_length);
