@@ -1,5 +1,5 @@
 -- What the proofs of the lines cite: the bytes of a name, and which line the number calls for. Assumes nothing.
-use Prim.Native.Nat.{ℕ}
+use Prim.Native.Nat.{ℕ, zero, suc, _≤_}
 use mathlib.Core.Path.{_≡_, refl}
 use mathlib.Core.List.{List, [], _∷_}
 use native.Mathlib.Omega.{arith}
@@ -22,16 +22,16 @@ unfolding run
 run-some [] h = absurd (h refl)
 run-some (b ∷ bs) h = rw (take-all (length (b ∷ bs)) (b ∷ bs) (omega arith))
 
-module _ (p q r : RefT (List ℕ)) where
-  pub panels : (x : Shown) → numberOf x ≡ 0 → IsShown p q x r → nameLine (text "panel") (placeOf x .start) (now r) ≡ shownLine x (now p) (now q)
-  panels (Panel t) e h = rw (h .bytes)
-  panels (Reference t) e h = absurd (omega (arith, e))
-  panels Neither e h = absurd (omega (arith, e))
+-- by the number of a name
+abbrev whose : ℕ → List ℕ
+whose zero = text "panel"
+whose (suc n) = text "reference"
 
-  pub references : (x : Shown) → numberOf x ≡ 1 → IsShown p q x r → nameLine (text "reference") (placeOf x .start) (now r) ≡ shownLine x (now p) (now q)
-  references (Panel t) e h = absurd (omega (arith, e))
-  references (Reference t) e h = rw (h .bytes)
-  references Neither e h = absurd (omega (arith, e))
+pub told : (p q r : RefT (List ℕ)) (x : Shown) (n : ℕ) → numberOf x ≡ n → n ≤ 1 → IsShown p q x r
+    → nameLine (whose n) (placeOf x .start) (now r) ≡ shownLine x (now p) (now q)
+told p q r (Panel t) n e l h = rw (← e, h .bytes)
+told p q r (Reference t) n e l h = rw (← e, h .bytes)
+told p q r Neither n e l h = absurd (omega (arith, e))
 
 pub neither : (p q : List ℕ) (x : Shown) → (numberOf x ≡ 0 → ⊥) → (numberOf x ≡ 1 → ⊥) → text "refuse 18\n" ≡ shownLine x p q
 neither p q (Panel t) h k = absurd (h refl)

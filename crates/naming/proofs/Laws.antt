@@ -41,22 +41,18 @@ module _ (s : List ℕ) where
       still Not = refl
       still (By t) = refl
 
-  -- a block that is refused has no name
+  -- a block that is refused has no name: what an acceptance tells is not so
+  refused : (v : Verdict) → (v ≡ Accepted → first (textsOf s 4) ≡ Not) → unlessRefused v (first (textsOf s 4)) ≡ Not
+  refused Accepted h = h refl
+  refused (Refused f) h = refl
+
   pub refused-before : (f : Refusal) → beforeSlots s ≡ Refused f → nameOf s ≡ Not
   unfolding nameOf
-  refused-before f e = go (verdictOf s) refl
-    where
-      go : (v : Verdict) → verdictOf s ≡ v → unlessRefused v (first (textsOf s 4)) ≡ Not
-      go Accepted a = let b = accepted-before s (end-is-verdict s ∙ a) in cc
-      go (Refused g) a = refl
+  refused-before f e = refused (verdictOf s) (λ a. let b = accepted-before s (end-is-verdict s ∙ a) in cc)
 
   pub refused-slot : (i n : ℕ) → i < 4 → saidIn s i ≡ refusal n → nameOf s ≡ Not
   unfolding nameOf
-  refused-slot i n l e = go (verdictOf s) refl
-    where
-      go : (v : Verdict) → verdictOf s ≡ v → unlessRefused v (first (textsOf s 4)) ≡ Not
-      go Accepted a = let b : refusedAt n (start i) ≡ Accepted = rw e at (accepted-slot s (end-is-verdict s ∙ a) i l) in cc
-      go (Refused g) a = refl
+  refused-slot i n l e = refused (verdictOf s) (λ a. let b : refusedAt n (start i) ≡ Accepted = rw e at (accepted-slot s (end-is-verdict s ∙ a) i l) in cc)
 
   -- the name of one that is not is the first of its texts
   pub passed-all : {name : Named} → Passed 4 name → name ≡ nameOf s

@@ -1,9 +1,10 @@
 -- `name_lines::shown_line` meets its contract, by the number. Assumes nothing.
 use mathlib.Core.Path.{sym, _∙_}
+use native.Mathlib.Omega.{arith}
 use denote.Ref.{now}
 use borrow.Author.Needs.{needs}
 use Rattle.naming.specs.Name.{shownOf}
-use Rattle.name_lines.proofs.Laws.{panels, references, neither}
+use Rattle.name_lines.proofs.Laws.{told, neither}
 use Rattle.name_lines.proofs.shown_line.Statement.{statement}
 use Rattle.name_lines.proofs.shown_line.Tie as tie
 
@@ -14,7 +15,7 @@ returns c =
     let s = n .before in
     let k = s .before in
     let a = k .before .before .before .args in
-    rw (← panels _ _ _ (shownOf (now (a .panel)) (now (a .reference))) (sym (k .number .ensures) ∙ i .if1 .taken) (n .name .ensures), ← s .start .ensures)
+    rw (← told _ _ _ (shownOf (now (a .panel)) (now (a .reference))) 0 (sym (k .number .ensures) ∙ i .if1 .taken) (omega arith) (n .name .ensures), ← s .start .ensures)
     (c .name-line .ensures)
 
 returns-2 : tie.Need-returns-2
@@ -24,7 +25,7 @@ returns-2 c =
     let s = n .before in
     let k = s .before in
     let a = k .before .before .before .args in
-    rw (← references _ _ _ (shownOf (now (a .panel)) (now (a .reference))) (sym (k .number .ensures) ∙ j .if2 .taken) (n .name .ensures), ← s .start .ensures)
+    rw (← told _ _ _ (shownOf (now (a .panel)) (now (a .reference))) 1 (sym (k .number .ensures) ∙ j .if2 .taken) (omega arith) (n .name .ensures), ← s .start .ensures)
     (c .name-line2 .ensures)
 
 returns-3 : tie.Need-returns-3
