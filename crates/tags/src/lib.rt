@@ -15,6 +15,7 @@ pub enum Tag {
     Raw,
 }
 
+#[tactic(auto, unfolding(crate::specs::Tags::tag_of))]
 pub fn tag_of(n: u8) -> Tag
     ensures { result ≡ tag_of n }
 {

@@ -5,10 +5,10 @@ ghost use Rattle.timing.specs.Axis.{back_porch, pixels_left, lines_left, across_
 ghost use Rattle.timing.specs.Rest.{clock_of, size_of, border_of, polarity_of, stereo_by, stereo_of};
 
 // A sum of pixels and lines does not compile: the two are different types, and what is computed of them is a method of each.
-#[derive(Drop)]
+#[derive(Clone, Copy)]
 pub struct Pixels(pub u16);
 
-#[derive(Drop)]
+#[derive(Clone, Copy)]
 pub struct Lines(pub u16);
 
 // One axis: its blanking is front porch, sync and back porch, in that order.

@@ -1,0 +1,9 @@
+-- `bits::digits16` meets its contract. Assumes nothing.
+use borrow.Author.Rules.{rules}
+use native.Mathlib.Omega.{arith}
+use Prim.Native.Nat.{◌%◌}
+use Rattle.bits.proofs.Laws.{one_shl_pos, shr_ones}
+use Rattle.bits.proofs.digits16.Goals as goal
+
+pub returns : goal.returns
+returns c = shr_ones c.args.v (c.args.shift % 16) (c.args.width % 16) 16 (omega arith)
