@@ -14,7 +14,7 @@ use crate_record::Reading;
 use steps::{Cursor, End, Refusal};
 
 // What is told of the answer: nothing while bytes are wanted; or the place after the record; or the refusal.
-#[derive(Drop)]
+#[derive(Clone, Copy)]
 pub enum Report {
     Waiting,
     At(Cursor),

@@ -11,14 +11,14 @@ use steps::{ByteRead, Cursor, FourRead, Refusal, Span, TwoRead, WordRead};
 use tags::Tag;
 
 // The white points of an fb slot.
-#[derive(Drop)]
+#[derive(Clone, Copy)]
 pub enum Points {
     One(WhitePoint),
     Two(WhitePoint, WhitePoint),
 }
 
 // What a descriptor says. Of an fa slot the six pairs are left to be taken.
-#[derive(Drop)]
+#[derive(Clone, Copy)]
 pub enum Slot {
     Nothing,
     Described(MonitorDescriptor),
@@ -26,25 +26,25 @@ pub enum Slot {
     Six,
 }
 
-#[derive(Drop)]
+#[derive(Clone, Copy)]
 pub enum PointRead {
     Got(WhitePoint, Cursor),
     Refused(Refusal),
 }
 
-#[derive(Drop)]
+#[derive(Clone, Copy)]
 pub enum PointsRead {
     Got(Points, Cursor),
     Refused(Refusal),
 }
 
-#[derive(Drop)]
+#[derive(Clone, Copy)]
 pub enum SecondaryRead {
     Got(SecondaryTiming, Cursor),
     Refused(Refusal),
 }
 
-#[derive(Drop)]
+#[derive(Clone, Copy)]
 pub enum SlotRead {
     Got(Slot, Cursor),
     Refused(Refusal),

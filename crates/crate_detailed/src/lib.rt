@@ -8,26 +8,26 @@ use crate_record::{DetailedTiming, ImageSize, SyncLine, SyncType};
 use steps::{ByteRead, Cursor, FourRead, Refusal, TwoRead, WordRead};
 use timing::{Across, AcrossRead, Down, DownRead};
 
-#[derive(Drop)]
+#[derive(Clone, Copy)]
 pub struct Axes {
     pub across: Across,
     pub down: Down,
 }
 
-#[derive(Drop)]
+#[derive(Clone, Copy)]
 pub enum AxesRead {
     Got(Axes, Cursor),
     Refused(Refusal),
 }
 
 // None where the clock or the active low byte is zero.
-#[derive(Drop)]
+#[derive(Clone, Copy)]
 pub enum MaybeTiming {
     None,
     Some(DetailedTiming),
 }
 
-#[derive(Drop)]
+#[derive(Clone, Copy)]
 pub enum DetailedRead {
     Got(MaybeTiming, Cursor),
     Refused(Refusal),

@@ -15,7 +15,7 @@ use crate_text::PassRead;
 use steps::{Cursor, End, Refusal};
 
 // How far a reading came: the piece that is not whole, 5 where all are; where that begins; and how it ended.
-#[derive(Drop)]
+#[derive(Clone, Copy)]
 pub struct Came {
     pub piece: usize,
     pub at: usize,

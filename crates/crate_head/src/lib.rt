@@ -12,7 +12,7 @@ use shared_record::{SupportedSync, Version};
 use steps::{ByteRead, Cursor, FourRead, LongRead, Refusal, TwoRead, WordRead};
 
 // All of it.
-#[derive(Drop)]
+#[derive(Clone, Copy)]
 pub struct Front {
     pub product: ProductInformation,
     pub version: Version,
@@ -20,61 +20,61 @@ pub struct Front {
     pub basic: Chromaticities,
 }
 
-#[derive(Drop)]
+#[derive(Clone, Copy)]
 pub enum HeaderRead {
     Got(Cursor),
     Refused(Refusal),
 }
 
-#[derive(Drop)]
+#[derive(Clone, Copy)]
 pub enum MakerRead {
     Got(ManufacturerID, Cursor),
     Refused(Refusal),
 }
 
-#[derive(Drop)]
+#[derive(Clone, Copy)]
 pub enum DateRead {
     Got(ManufactureDate, Cursor),
     Refused(Refusal),
 }
 
-#[derive(Drop)]
+#[derive(Clone, Copy)]
 pub enum ProductRead {
     Got(ProductInformation, Cursor),
     Refused(Refusal),
 }
 
-#[derive(Drop)]
+#[derive(Clone, Copy)]
 pub enum VersionRead {
     Got(Version, Cursor),
     Refused(Refusal),
 }
 
-#[derive(Drop)]
+#[derive(Clone, Copy)]
 pub enum InputRead {
     Got(VideoInput, Cursor),
     Refused(Refusal),
 }
 
-#[derive(Drop)]
+#[derive(Clone, Copy)]
 pub enum DpmsRead {
     Got(DPMSFeatures, Cursor),
     Refused(Refusal),
 }
 
-#[derive(Drop)]
+#[derive(Clone, Copy)]
 pub enum DisplayRead {
     Got(DisplayParameters, Cursor),
     Refused(Refusal),
 }
 
-#[derive(Drop)]
+#[derive(Clone, Copy)]
 pub enum ColorRead {
     Got(Chromaticities, Cursor),
     Refused(Refusal),
 }
 
-#[derive(Drop)]
+#[derive(Clone, Copy)]
 pub enum FrontRead {
     Got(Front, Cursor),
     Refused(Refusal),

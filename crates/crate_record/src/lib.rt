@@ -9,16 +9,16 @@ use steps::{End, Span};
 use timing::{Across, Border, Down, Lines, Pixels, StereoType, SyncPolarity};
 
 // Three 5-bit numbers.
-#[derive(Drop)]
+#[derive(Clone, Copy)]
 pub struct ManufacturerID(pub u8, pub u8, pub u8);
 
-#[derive(Drop)]
+#[derive(Clone, Copy)]
 pub struct ManufactureDate {
     pub week: u8,
     pub year: u16,
 }
 
-#[derive(Drop)]
+#[derive(Clone, Copy)]
 pub struct ProductInformation {
     pub maker: ManufacturerID,
     pub code: u16,
@@ -26,13 +26,13 @@ pub struct ProductInformation {
     pub date: ManufactureDate,
 }
 
-#[derive(Drop)]
+#[derive(Clone, Copy)]
 pub struct SignalLevel {
     pub high: f32,
     pub low: f32,
 }
 
-#[derive(Drop)]
+#[derive(Clone, Copy)]
 pub enum VideoInput {
     Analog {
         level: SignalLevel,
@@ -45,25 +45,25 @@ pub enum VideoInput {
 }
 
 // In centimetres.
-#[derive(Drop)]
+#[derive(Clone, Copy)]
 pub struct ImageSize {
     pub width: f32,
     pub height: f32,
 }
 
-#[derive(Drop)]
+#[derive(Clone, Copy)]
 pub enum MaxSize {
     None,
     Some(ImageSize),
 }
 
-#[derive(Drop)]
+#[derive(Clone, Copy)]
 pub enum Gamma {
     None,
     Some(f32),
 }
 
-#[derive(Drop)]
+#[derive(Clone, Copy)]
 pub enum DisplayType {
     Monochrome,
     RGBColor,
@@ -71,7 +71,7 @@ pub enum DisplayType {
     Undefined,
 }
 
-#[derive(Drop)]
+#[derive(Clone, Copy)]
 pub struct DPMSFeatures {
     pub standby: bool,
     pub suspend: bool,
@@ -82,7 +82,7 @@ pub struct DPMSFeatures {
     pub gtf: bool,
 }
 
-#[derive(Drop)]
+#[derive(Clone, Copy)]
 pub struct DisplayParameters {
     pub input: VideoInput,
     pub size: MaxSize,
@@ -90,14 +90,14 @@ pub struct DisplayParameters {
     pub dpms: DPMSFeatures,
 }
 
-#[derive(Drop)]
+#[derive(Clone, Copy)]
 pub struct Chromaticity {
     pub x: f32,
     pub y: f32,
 }
 
 // The four that the block always holds.
-#[derive(Drop)]
+#[derive(Clone, Copy)]
 pub struct Chromaticities {
     pub red: Chromaticity,
     pub green: Chromaticity,
@@ -105,7 +105,7 @@ pub struct Chromaticities {
     pub white: Chromaticity,
 }
 
-#[derive(Drop)]
+#[derive(Clone, Copy)]
 pub struct WhitePoint {
     pub index: u8,
     pub x: f32,
@@ -113,7 +113,7 @@ pub struct WhitePoint {
     pub gamma: f32,
 }
 
-#[derive(Drop)]
+#[derive(Clone, Copy)]
 pub struct WhitePoints {
     pub items: [WhitePoint; 6],
     pub len: usize,
@@ -126,27 +126,27 @@ pub struct ColorCharacteristics {
 }
 
 // 8 bytes with no padding, so `rate` is no u8: a list of them is cleared and copied in wide moves.
-#[derive(Drop)]
+#[derive(Clone, Copy)]
 pub struct StandardTiming {
     pub ratio: f32,
     pub width: u16,
     pub rate: u16,
 }
 
-#[derive(Drop)]
+#[derive(Clone, Copy)]
 pub struct StandardTimings {
     pub items: [StandardTiming; 26],
     pub len: usize,
 }
 
-#[derive(Drop)]
+#[derive(Clone, Copy)]
 pub enum SyncLine {
     RGB,
     Green,
     Digital(SyncPolarity),
 }
 
-#[derive(Drop)]
+#[derive(Clone, Copy)]
 pub enum SyncType {
     Composite {
         serrated: bool,
@@ -158,7 +158,7 @@ pub enum SyncType {
     },
 }
 
-#[derive(Drop)]
+#[derive(Clone, Copy)]
 pub struct DetailedTiming {
     pub clock: u32,
     pub across: Across,
@@ -170,7 +170,7 @@ pub struct DetailedTiming {
     pub sync: SyncType,
 }
 
-#[derive(Drop)]
+#[derive(Clone, Copy)]
 pub struct DetailedTimings {
     pub items: [DetailedTiming; 4],
     pub len: usize,
@@ -183,7 +183,7 @@ pub struct Timings {
     pub detailed: DetailedTimings,
 }
 
-#[derive(Drop)]
+#[derive(Clone, Copy)]
 pub enum SecondaryTiming {
     None,
     GTF {
@@ -200,7 +200,7 @@ pub enum SecondaryTiming {
 }
 
 // In Hz.
-#[derive(Drop)]
+#[derive(Clone, Copy)]
 pub struct Limits {
     pub vmin: u8,
     pub vmax: u8,
@@ -209,7 +209,7 @@ pub struct Limits {
     pub clock: u32,
 }
 
-#[derive(Drop)]
+#[derive(Clone, Copy)]
 pub enum MonitorDescriptor {
     SerialNumber(Span),
     OtherString(Span),
@@ -229,7 +229,7 @@ pub enum MonitorDescriptor {
 }
 
 // An array of enums is held through a struct.
-#[derive(Drop)]
+#[derive(Clone, Copy)]
 pub struct Held {
     pub descriptor: MonitorDescriptor,
 }

@@ -6,20 +6,20 @@ ghost use Rattle.crate_text.specs.Answers.{of_scan, of_pass, of_text};
 
 use steps::{ByteRead, Cursor, Refusal, Span};
 
-#[derive(Drop)]
+#[derive(Clone, Copy)]
 pub enum ScanRead {
     Got(usize, Cursor),
     Refused(Refusal),
 }
 
 // Bytes that were passed, and leave no value.
-#[derive(Drop)]
+#[derive(Clone, Copy)]
 pub enum PassRead {
     Got(Cursor),
     Refused(Refusal),
 }
 
-#[derive(Drop)]
+#[derive(Clone, Copy)]
 pub enum TextRead {
     Got(Span, Cursor),
     Refused(Refusal),

@@ -20,13 +20,13 @@ pub struct EstablishedRead {
 }
 
 // What two bytes say: 01 01 is skipped.
-#[derive(Drop)]
+#[derive(Clone, Copy)]
 pub enum Pair {
     Skipped,
     Listed(StandardTiming),
 }
 
-#[derive(Drop)]
+#[derive(Clone, Copy)]
 pub enum PairRead {
     Got(Pair, Cursor),
     Refused(Refusal),

@@ -13,13 +13,13 @@ pub struct VideoDescriptors {
 }
 
 // One with another tag: the run of its bytes stands behind the header.
-#[derive(Drop)]
+#[derive(Clone, Copy)]
 pub struct DataBlock {
     pub tag: u8,
     pub run: Span,
 }
 
-#[derive(Drop)]
+#[derive(Clone, Copy)]
 pub struct DataBlocks {
     pub items: [DataBlock; 123],
     pub len: usize,

@@ -7,7 +7,7 @@ ghost use Rattle.marking.specs.Lines as lines;
 
 // A clock with an active low byte of zero; tag 10; a white point of index 0; one of gamma ff; ratio code 0 in a listed pair below revision 3; revision 4 or
 // above.
-#[derive(Drop)]
+#[derive(Clone, Copy)]
 pub struct Marks {
     pub active: bool,
     pub dummy: bool,

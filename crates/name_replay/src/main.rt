@@ -7,7 +7,7 @@ const MOST: u64 = 4294967296;
 const LONGEST: usize = 4096;
 
 // What was read of a block: its length, nothing, a part of it, or a length above 4,096.
-#[derive(Drop)]
+#[derive(Clone, Copy)]
 enum Came {
     All(usize),
     Nothing,

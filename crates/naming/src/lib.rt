@@ -8,14 +8,14 @@ use standard_slots::Slot;
 use steps::Span;
 
 // The first fc text of a block, by its place.
-#[derive(Drop)]
+#[derive(Clone, Copy)]
 pub enum Named {
     Not,
     By(Span),
 }
 
 // Which block's is shown.
-#[derive(Drop)]
+#[derive(Clone, Copy)]
 pub enum Shown {
     Panel(Span),
     Reference(Span),

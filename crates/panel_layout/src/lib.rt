@@ -5,7 +5,7 @@ ghost use Rattle.panel_layout.specs.Layout.{run, places_of, heads, wrong_at, lay
 
 // Of the lines that count: where the line of the established timings stands, where standard timings, detailed timings and descriptors begin, and where the
 // line of the extensions stands.
-#[derive(Drop)]
+#[derive(Clone, Copy)]
 pub struct Places {
     pub established: usize,
     pub pairs: usize,
@@ -15,7 +15,7 @@ pub struct Places {
 }
 
 // Or the place of the first line that is wrong.
-#[derive(Drop)]
+#[derive(Clone, Copy)]
 pub enum Laid {
     Has(Places),
     Wrong(usize),

@@ -13,14 +13,14 @@ use timing::{Lines, Pixels};
 // ---- what is asked
 
 // A number, and where what follows begins; nothing where there is none.
-#[derive(Drop)]
+#[derive(Clone, Copy)]
 pub enum Number {
     Nothing,
     Is { value: usize, next: usize },
 }
 
 // The limits, and where the block begins; nothing where the first line is no such line.
-#[derive(Drop)]
+#[derive(Clone, Copy)]
 pub enum Asked {
     Nothing,
     Is { limits: Limits, block: usize },

@@ -7,7 +7,7 @@ use standard_record::{DetailedTiming, DetailedTimings};
 use timing::{Lines, Pixels};
 
 // What the board can drive: the highest clock in Hz, the most pixels across, the most lines.
-#[derive(Drop)]
+#[derive(Clone, Copy)]
 pub struct Limits {
     pub clock: u32,
     pub across: Pixels,
@@ -15,7 +15,7 @@ pub struct Limits {
 }
 
 // The index of a timing, or the number of a refusal.
-#[derive(Drop)]
+#[derive(Clone, Copy)]
 pub enum Choice {
     Index(usize),
     Refused(u8),

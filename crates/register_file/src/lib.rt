@@ -11,14 +11,14 @@ const BATCH: usize = 248;
 const MOST: u64 = 9223372036854775808;
 
 // From the short form to the long one, or back.
-#[derive(Drop)]
+#[derive(Clone, Copy)]
 pub enum Way {
     Up,
     Down,
 }
 
 // The records stepped, the bytes that they are now, and the number that the next one is refused with, 0 if there is none.
-#[derive(Drop)]
+#[derive(Clone, Copy)]
 struct Batch {
     records: usize,
     written: usize,
@@ -26,7 +26,7 @@ struct Batch {
 }
 
 // The bytes that came, and whether a read failed then.
-#[derive(Drop)]
+#[derive(Clone, Copy)]
 struct Filled {
     count: usize,
     failed: bool,

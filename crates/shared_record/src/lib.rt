@@ -1,12 +1,12 @@
 // What both records have in common: version, the sync of an analog input, the established timings.
-#[derive(Drop)]
+#[derive(Clone, Copy)]
 pub struct Version {
     pub version: u8,
     pub revision: u8,
 }
 
 // The kinds of sync that an analog input takes.
-#[derive(Drop)]
+#[derive(Clone, Copy)]
 pub struct SupportedSync {
     pub serrated: bool,
     pub green: bool,
@@ -15,7 +15,7 @@ pub struct SupportedSync {
 }
 
 // The flags that are set, by their numbers from 0 to 16.
-#[derive(Drop)]
+#[derive(Clone, Copy)]
 pub struct EstablishedTimings {
     pub items: [u8; 17],
     pub len: usize,

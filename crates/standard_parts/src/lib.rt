@@ -18,7 +18,7 @@ use steps::Span;
 use timing::Size;
 
 // The structure of a block: what its revision decides.
-#[derive(Drop)]
+#[derive(Clone, Copy)]
 pub enum Structure {
     Below3,
     From3,
@@ -26,14 +26,14 @@ pub enum Structure {
 }
 
 // What two bytes of a standard timing say.
-#[derive(Drop)]
+#[derive(Clone, Copy)]
 pub enum Pair {
     Skipped,
     Listed(StandardTiming),
 }
 
 // What five bytes of an fb slot say.
-#[derive(Drop)]
+#[derive(Clone, Copy)]
 pub enum Point {
     Skipped,
     Listed(WhitePoint),

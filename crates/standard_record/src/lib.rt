@@ -8,17 +8,17 @@ use steps::{Refusal, Span};
 use timing::{Across, Border, Down, Lines, Pixels, Size, StereoType, SyncPolarity};
 
 // Three capital letters; 0 stands for a code that is no letter.
-#[derive(Drop)]
+#[derive(Clone, Copy)]
 pub struct Maker(pub u8, pub u8, pub u8);
 
 // The week of manufacture; or none, the year being that of the model, from revision 4 on.
-#[derive(Drop)]
+#[derive(Clone, Copy)]
 pub enum Week {
     Made(u8),
     ModelYear,
 }
 
-#[derive(Drop)]
+#[derive(Clone, Copy)]
 pub struct Product {
     pub maker: Maker,
     pub code: u16,
@@ -28,7 +28,7 @@ pub struct Product {
 }
 
 // Of a colour, in bits.
-#[derive(Drop)]
+#[derive(Clone, Copy)]
 pub enum Depth {
     Undefined,
     Bits(u8),
@@ -37,7 +37,7 @@ pub enum Depth {
 
 // `level` is the code of the signal levels: 0.700/0.300, 0.714/0.286, 1.000/0.400, 0.700/0.000 V. A digital input is told by its depth and the code of its
 // interface from revision 4 on.
-#[derive(Drop)]
+#[derive(Clone, Copy)]
 pub enum VideoInput {
     Analog {
         level: u8,
@@ -54,7 +54,7 @@ pub enum VideoInput {
 }
 
 // In millimetres; or a ratio alone, from revision 4 on.
-#[derive(Drop)]
+#[derive(Clone, Copy)]
 pub enum ImageSize {
     None,
     Some(Size),
@@ -62,13 +62,13 @@ pub enum ImageSize {
 }
 
 // In hundredths.
-#[derive(Drop)]
+#[derive(Clone, Copy)]
 pub enum Gamma {
     None,
     Some(u16),
 }
 
-#[derive(Drop)]
+#[derive(Clone, Copy)]
 pub enum DisplayType {
     Monochrome,
     RGBColor,
@@ -77,13 +77,13 @@ pub enum DisplayType {
 }
 
 // A type; or, where the input tells its interface, the colour encodings beside RGB 4:4:4.
-#[derive(Drop)]
+#[derive(Clone, Copy)]
 pub enum Kind {
     Typed(DisplayType),
     Encodings { ycrcb444: bool, ycrcb422: bool },
 }
 
-#[derive(Drop)]
+#[derive(Clone, Copy)]
 pub struct Features {
     pub standby: bool,
     pub suspend: bool,
@@ -94,7 +94,7 @@ pub struct Features {
     pub gtf: bool,
 }
 
-#[derive(Drop)]
+#[derive(Clone, Copy)]
 pub struct Display {
     pub input: VideoInput,
     pub size: ImageSize,
@@ -103,14 +103,14 @@ pub struct Display {
 }
 
 // In 1/1024ths.
-#[derive(Drop)]
+#[derive(Clone, Copy)]
 pub struct Chromaticity {
     pub x: u16,
     pub y: u16,
 }
 
 // The four that the block always holds.
-#[derive(Drop)]
+#[derive(Clone, Copy)]
 pub struct Chromaticities {
     pub red: Chromaticity,
     pub green: Chromaticity,
@@ -118,53 +118,53 @@ pub struct Chromaticities {
     pub white: Chromaticity,
 }
 
-#[derive(Drop)]
+#[derive(Clone, Copy)]
 pub struct WhitePoint {
     pub index: u8,
     pub place: Chromaticity,
     pub gamma: Gamma,
 }
 
-#[derive(Drop)]
+#[derive(Clone, Copy)]
 pub struct WhitePoints {
     pub items: [HeldPoint; 6],
     pub len: usize,
 }
 
-#[derive(Drop)]
+#[derive(Clone, Copy)]
 pub struct Color {
     pub basic: Chromaticities,
     pub points: WhitePoints,
 }
 
 // Width to height.
-#[derive(Drop)]
+#[derive(Clone, Copy)]
 pub struct Ratio {
     pub width: u16,
     pub height: u16,
 }
 
-#[derive(Drop)]
+#[derive(Clone, Copy)]
 pub struct StandardTiming {
     pub width: u16,
     pub ratio: Ratio,
     pub rate: u16,
 }
 
-#[derive(Drop)]
+#[derive(Clone, Copy)]
 pub struct StandardTimings {
     pub items: [HeldPair; 26],
     pub len: usize,
 }
 
 // Which lines carry an analog composite sync.
-#[derive(Drop)]
+#[derive(Clone, Copy)]
 pub enum SyncLine {
     Green,
     RGB,
 }
 
-#[derive(Drop)]
+#[derive(Clone, Copy)]
 pub enum Sync {
     AnalogComposite {
         serrated: bool,
@@ -185,7 +185,7 @@ pub enum Sync {
 }
 
 // The clock in Hz, the size in millimetres.
-#[derive(Drop)]
+#[derive(Clone, Copy)]
 pub struct DetailedTiming {
     pub clock: u32,
     pub across: Across,
@@ -197,13 +197,13 @@ pub struct DetailedTiming {
     pub sync: Sync,
 }
 
-#[derive(Drop)]
+#[derive(Clone, Copy)]
 pub struct DetailedTimings {
     pub items: [HeldTiming; 4],
     pub len: usize,
 }
 
-#[derive(Drop)]
+#[derive(Clone, Copy)]
 pub struct Timings {
     pub established: EstablishedTimings,
     pub standard: StandardTimings,
@@ -211,7 +211,7 @@ pub struct Timings {
 }
 
 // In Hz.
-#[derive(Drop)]
+#[derive(Clone, Copy)]
 pub struct Limits {
     pub vmin: u16,
     pub vmax: u16,
@@ -221,7 +221,7 @@ pub struct Limits {
 }
 
 // `start` in Hz; c, m, k and j as stored, so c and j are twice their value.
-#[derive(Drop)]
+#[derive(Clone, Copy)]
 pub enum SecondaryTiming {
     None,
     GTF {
@@ -237,7 +237,7 @@ pub enum SecondaryTiming {
     },
 }
 
-#[derive(Drop)]
+#[derive(Clone, Copy)]
 pub enum Descriptor {
     Serial(Span),
     Text(Span),
@@ -256,7 +256,7 @@ pub enum Descriptor {
     },
 }
 
-#[derive(Drop)]
+#[derive(Clone, Copy)]
 pub struct Descriptors {
     pub items: [Held; 3],
     pub len: usize,
@@ -264,26 +264,26 @@ pub struct Descriptors {
 
 // ---- the entries of the four lists: each beside the number of the slot that holds it, 1 to 4; 0 for the eight pairs at offset 38
 
-#[derive(Drop)]
+#[derive(Clone, Copy)]
 pub struct HeldPoint {
     pub point: WhitePoint,
     pub slot: u16,
 }
 
 // Five numbers of 16 bits, 10 bytes with no padding: docs/BENCHMARK.md has what other layouts cost.
-#[derive(Drop)]
+#[derive(Clone, Copy)]
 pub struct HeldPair {
     pub pair: StandardTiming,
     pub slot: u16,
 }
 
-#[derive(Drop)]
+#[derive(Clone, Copy)]
 pub struct HeldTiming {
     pub timing: DetailedTiming,
     pub slot: u16,
 }
 
-#[derive(Drop)]
+#[derive(Clone, Copy)]
 pub struct Held {
     pub descriptor: Descriptor,
     pub slot: u16,
@@ -291,7 +291,7 @@ pub struct Held {
 
 // ---- the record
 
-#[derive(Drop)]
+#[derive(Clone, Copy)]
 pub struct StandardRecord {
     pub product: Product,
     pub version: Version,
@@ -302,14 +302,14 @@ pub struct StandardRecord {
     pub extensions: u8,
 }
 
-#[derive(Drop)]
+#[derive(Clone, Copy)]
 pub enum Verdict {
     Accepted,
     Refused(Refusal),
 }
 
 // The record, and beside it how its reading ended; the filler where it was refused.
-#[derive(Drop)]
+#[derive(Clone, Copy)]
 pub struct StandardReading {
     pub edid: StandardRecord,
     pub end: Verdict,

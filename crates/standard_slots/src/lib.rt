@@ -12,7 +12,7 @@ use steps::Span;
 use tags::Tag;
 
 // The white points of an fb slot.
-#[derive(Drop)]
+#[derive(Clone, Copy)]
 pub enum Points {
     None,
     One(WhitePoint),
@@ -20,7 +20,7 @@ pub enum Points {
 }
 
 // An fa slot says `Pairs` alone: an enum holds no list of six.
-#[derive(Drop)]
+#[derive(Clone, Copy)]
 pub enum Slot {
     Refused(u8),
     Nothing,

@@ -7,7 +7,7 @@ use standard_record::{DetailedTiming, Sync, SyncLine};
 use timing::{AcrossRead, Border, DownRead, Size, StereoType};
 
 // `Over`: sync and front porch exceed the blanking on one axis.
-#[derive(Drop)]
+#[derive(Clone, Copy)]
 pub enum Timed {
     Is(DetailedTiming),
     Over,

@@ -27,7 +27,7 @@ use write_next::{NextDescriptor, NextTiming};
 use write_pairs::PairsBytes;
 
 // How many entries of each list are used up.
-#[derive(Drop)]
+#[derive(Clone, Copy)]
 pub struct Place {
     pub timed: usize,
     pub listed: usize,
@@ -43,7 +43,7 @@ struct Turn {
 }
 
 // What the front comes to.
-#[derive(Drop)]
+#[derive(Clone, Copy)]
 struct Begun {
     fits: bool,
     listed: usize,

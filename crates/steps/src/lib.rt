@@ -3,56 +3,56 @@ ghost use Rattle.std.specs.Prelude.{◌≡◌};
 ghost use Rattle.steps.specs.Steps.{run};
 ghost use Rattle.steps.specs.Leaves.{byte, two, four, word, long, of_byte, of_two, of_four, of_word, of_long};
 
-#[derive(Drop)]
+#[derive(Clone, Copy)]
 pub struct Cursor {
     pub at: usize,
 }
 
-#[derive(Drop)]
+#[derive(Clone, Copy)]
 pub struct Refusal {
     pub number: u8,
     pub at: usize,
 }
 
 // A run of bytes of the input, by its start and its length.
-#[derive(Drop)]
+#[derive(Clone, Copy)]
 pub struct Span {
     pub start: usize,
     pub len: usize,
 }
 
-#[derive(Drop)]
+#[derive(Clone, Copy)]
 pub enum ByteRead {
     Got(u8, Cursor),
     Refused(Refusal),
 }
 
-#[derive(Drop)]
+#[derive(Clone, Copy)]
 pub enum TwoRead {
     Got(u8, u8, Cursor),
     Refused(Refusal),
 }
 
-#[derive(Drop)]
+#[derive(Clone, Copy)]
 pub enum FourRead {
     Got(u8, u8, u8, u8, Cursor),
     Refused(Refusal),
 }
 
-#[derive(Drop)]
+#[derive(Clone, Copy)]
 pub enum WordRead {
     Got(u16, Cursor),
     Refused(Refusal),
 }
 
-#[derive(Drop)]
+#[derive(Clone, Copy)]
 pub enum LongRead {
     Got(u32, Cursor),
     Refused(Refusal),
 }
 
 // How a reading ended, beside a value that an enum cannot hold: one with an array.
-#[derive(Drop)]
+#[derive(Clone, Copy)]
 pub enum End {
     At(Cursor),
     Refused(Refusal),

@@ -3,7 +3,7 @@ ghost use Rattle.std.specs.Prelude.{◌≡◌};
 ghost use Rattle.tags.specs.Tags.{tag_of};
 
 // `Raw`: bytes without a form of their own, the maker's or undefined ones.
-#[derive(Drop)]
+#[derive(Clone, Copy)]
 pub enum Tag {
     Dummy,
     Pairs,

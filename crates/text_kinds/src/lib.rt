@@ -7,7 +7,7 @@ ghost use Rattle.text_kinds.specs.Kinds as kinds;
 ghost use Rattle.text_kinds.specs.Answers.{Reads, Tells, kept_of};
 
 // A number; 0 where there is none.
-#[derive(Drop)]
+#[derive(Clone, Copy)]
 pub struct Number {
     pub value: u32,
     pub is: bool,
@@ -22,7 +22,7 @@ pub struct Kept {
 }
 
 // What comes next in a text or a run: a byte, and where the rest begins.
-#[derive(Drop)]
+#[derive(Clone, Copy)]
 pub enum Next {
     Byte(u8, usize),
     Ends,

@@ -5,7 +5,7 @@ ghost use Rattle.text_lines.specs.Scan.{line_length};
 ghost use Rattle.text_lines.specs.Walk.{Found};
 
 // Where a line stands, and its number.
-#[derive(Drop)]
+#[derive(Clone, Copy)]
 struct Place {
     start: usize,
     end: usize,

@@ -5,7 +5,7 @@ ghost use Rattle.text_words.specs.Scan.{word_length, gap_length};
 ghost use Rattle.text_words.specs.Walk.{Walked};
 
 // Where a word stands, and which it is.
-#[derive(Drop)]
+#[derive(Clone, Copy)]
 pub struct Place {
     pub start: usize,
     pub end: usize,

@@ -12,7 +12,7 @@ pub struct Pixels(pub u16);
 pub struct Lines(pub u16);
 
 // One axis: its blanking is front porch, sync and back porch, in that order.
-#[derive(Drop)]
+#[derive(Clone, Copy)]
 pub struct Across {
     pub active: Pixels,
     pub front: Pixels,
@@ -20,7 +20,7 @@ pub struct Across {
     pub back: Pixels,
 }
 
-#[derive(Drop)]
+#[derive(Clone, Copy)]
 pub struct Down {
     pub active: Lines,
     pub front: Lines,
@@ -29,56 +29,56 @@ pub struct Down {
 }
 
 // What is left of a blanking, in numbers, pixels and lines. `Over`: sync and front porch exceed it.
-#[derive(Drop)]
+#[derive(Clone, Copy)]
 enum BackPorch {
     Left(u16),
     Over,
 }
 
-#[derive(Drop)]
+#[derive(Clone, Copy)]
 enum PixelsLeft {
     Left(Pixels),
     Over,
 }
 
-#[derive(Drop)]
+#[derive(Clone, Copy)]
 enum LinesLeft {
     Left(Lines),
     Over,
 }
 
-#[derive(Drop)]
+#[derive(Clone, Copy)]
 pub enum AcrossRead {
     Fits(Across),
     Over,
 }
 
-#[derive(Drop)]
+#[derive(Clone, Copy)]
 pub enum DownRead {
     Fits(Down),
     Over,
 }
 
 // In millimetres.
-#[derive(Drop)]
+#[derive(Clone, Copy)]
 pub struct Size {
     pub width: u16,
     pub height: u16,
 }
 
-#[derive(Drop)]
+#[derive(Clone, Copy)]
 pub struct Border {
     pub across: Pixels,
     pub down: Lines,
 }
 
-#[derive(Drop)]
+#[derive(Clone, Copy)]
 pub enum SyncPolarity {
     Positive,
     Negative,
 }
 
-#[derive(Drop)]
+#[derive(Clone, Copy)]
 pub enum StereoType {
     None,
     SequentialRightSync,

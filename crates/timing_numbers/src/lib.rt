@@ -6,7 +6,7 @@ use standard_record::{DetailedTiming, Sync};
 use timing::SyncPolarity;
 
 // Its kind, and two values.
-#[derive(Drop)]
+#[derive(Clone, Copy)]
 pub struct SyncNumbers {
     pub kind: u32,
     pub first: u32,

@@ -22,7 +22,7 @@ pub struct FrontBytes {
 }
 
 // Code, serial number, week and year.
-#[derive(Drop)]
+#[derive(Clone, Copy)]
 struct NumberBytes {
     fits: bool,
     b10: u8,
@@ -35,7 +35,7 @@ struct NumberBytes {
     b17: u8,
 }
 
-#[derive(Drop)]
+#[derive(Clone, Copy)]
 struct ColorBytes {
     fits: bool,
     b25: u8,
@@ -50,7 +50,7 @@ struct ColorBytes {
     b34: u8,
 }
 
-#[derive(Drop)]
+#[derive(Clone, Copy)]
 struct FlagBytes {
     fits: bool,
     b35: u8,

@@ -2,13 +2,13 @@
 ghost use Rattle.std.specs.Prelude.{◌≡◌, ◌&&◌, ◌≤◌};
 ghost use Rattle.write_leaf.specs.Bytes.{digit};
 
-#[derive(Drop)]
+#[derive(Clone, Copy)]
 pub struct OneByte {
     pub fits: bool,
     pub byte: u8,
 }
 
-#[derive(Drop)]
+#[derive(Clone, Copy)]
 pub struct TwoBytes {
     pub fits: bool,
     pub first: u8,

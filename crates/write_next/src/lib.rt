@@ -9,13 +9,13 @@ use standard_parts::Point;
 use standard_record::{Descriptor, DetailedTiming, Held, HeldPair, HeldPoint, HeldTiming};
 use standard_slots::Points;
 
-#[derive(Drop)]
+#[derive(Clone, Copy)]
 pub enum NextTiming {
     None,
     Is(DetailedTiming),
 }
 
-#[derive(Drop)]
+#[derive(Clone, Copy)]
 pub enum NextDescriptor {
     None,
     Is(Descriptor),

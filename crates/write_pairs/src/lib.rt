@@ -14,7 +14,7 @@ pub struct PairsBytes {
     pub many: usize,
 }
 
-#[derive(Drop)]
+#[derive(Clone, Copy)]
 struct HeldBytes {
     other: bool,
     fits: bool,

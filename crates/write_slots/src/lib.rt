@@ -33,7 +33,7 @@ struct SecondaryBytes {
 }
 
 // The two ends of a range, and the code of what is added to them.
-#[derive(Drop)]
+#[derive(Clone, Copy)]
 struct EndsBytes {
     fits: bool,
     code: u8,
