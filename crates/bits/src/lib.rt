@@ -1,4 +1,6 @@
 // Packed fields: the code has & | << >>, the contracts have / % * + alone. And the bytes of a slice by their places.
+#![tactic(auto)]
+
 ghost use Rattle.std.specs.Prelude.{◌≡◌, ◌+◌, ◌*◌, ◌%◌, ◌^◌, ◌<◌};
 ghost use Rattle.bits.specs.Fields.{digits, bit};
 ghost use Rattle.bits.specs.Bytes.{◌!◌, part};

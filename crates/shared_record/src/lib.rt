@@ -1,3 +1,5 @@
+#![tactic(auto)]
+
 // What both records have in common: version, the sync of an analog input, the established timings.
 #[derive(Clone, Copy)]
 pub struct Version {

@@ -1,6 +1,6 @@
 -- The smallest programs, and the answers of the cursor's methods as outcomes.
 use Rattle.std.specs.Prelude.{ℕ, ◌+◌, ◌*◌, ◌≡◌}
-use Rattle.steps.specs.Steps.{Steps, done, next, here, ◌>>=◌, ◌>>◌, Outcome, got, refused}
+use Rattle.steps.specs.Steps.{Steps, done, next, here, ◌>>=◌, Outcome, got, refused}
 use Rattle.steps.specs.declared.ByteRead.{ByteRead}
 use Rattle.steps.specs.declared.ByteRead.TheVariants as B
 use Rattle.steps.specs.declared.TwoRead.{TwoRead}

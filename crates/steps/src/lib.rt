@@ -1,4 +1,6 @@
 // A cursor over a lent slice: each read gives the value and the cursor moved on, or a refusal with its place.
+#![tactic(auto)]
+
 ghost use Rattle.std.specs.Prelude.{◌≡◌};
 ghost use Rattle.steps.specs.Steps.{run};
 ghost use Rattle.steps.specs.Leaves.{byte, two, four, word, long, of_byte, of_two, of_four, of_word, of_long};

@@ -1,4 +1,6 @@
 // The byte sum of a slice of any length, carried in one byte that wraps.
+#![tactic(auto)]
+
 ghost use Rattle.std.specs.Prelude.{◌≡◌, ◌==◌};
 ghost use Rattle.sums.specs.Sum.{byte_sum};
 

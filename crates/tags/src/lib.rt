@@ -1,4 +1,6 @@
 // What the tag of a slot that is no timing names, for both readings.
+#![tactic(auto)]
+
 ghost use Rattle.std.specs.Prelude.{◌≡◌};
 ghost use Rattle.tags.specs.Tags.{tag_of};
 

@@ -1,4 +1,6 @@
 // The words of a line of text, and what each stands for.
+#![tactic(auto)]
+
 ghost use Rattle.std.specs.Prelude.{◌+◌, ◌≤◌, ◌≡◌, false, length, drop};
 ghost use Rattle.text_words.specs.Words.{is_blank, is_plain, parts, turned, ◌word◌, last_word, same};
 ghost use Rattle.text_words.specs.Scan.{word_length, gap_length};

@@ -1,5 +1,7 @@
 // What both readings take from the bytes of a detailed timing: axes and porches, size, border, stereo, polarity.
 // Bytes are named by their place in the 18 of a timing: b2 is the third.
+#![tactic(auto)]
+
 ghost use Rattle.std.specs.Prelude.{◌≡◌};
 ghost use Rattle.timing.specs.Axis.{back_porch, pixels_left, lines_left, across_of, down_of};
 ghost use Rattle.timing.specs.Rest.{clock_of, size_of, border_of, polarity_of, stereo_by, stereo_of};

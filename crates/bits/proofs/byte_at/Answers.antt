@@ -1,7 +1,6 @@
 -- `bits::byte_at` meets its contract: past the end there is no byte. Assumes nothing.
 use mathlib.Core.Path.{sym}
 use lib.ListN.{get_or-eq_default}
-use borrow.Author.Rules.{rules}
 use Rattle.bits.proofs.byte_at.Goals as goal
 
 pub returns-else-k-s : goal.returns-else-k-s

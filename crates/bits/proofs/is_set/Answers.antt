@@ -1,5 +1,4 @@
 -- `bits::is_set` meets its contract. Assumes nothing.
-use borrow.Author.Rules.{rules}
 use native.Mathlib.Omega.{arith}
 use Prim.Native.Nat.{◌%◌}
 use Rattle.bits.proofs.Laws.{one_shl, and_bit}

@@ -1,5 +1,4 @@
 -- `bits::is_set16` meets its contract. Assumes nothing.
-use borrow.Author.Rules.{rules}
 use Prim.Native.Nat.{◌%◌}
 use Rattle.bits.proofs.Laws.{shr_bit}
 use Rattle.bits.proofs.is_set16.Goals as goal

@@ -6,7 +6,6 @@ use native.Mathlib.Numerals.{unary_clauses}
 use native.Mathlib.Omega.{arith}
 use lib.ListN.{length, take, drop, length-drop, drop_of_length-le}
 use lib.Seq.{take-nil, take_all}
-use borrow.Author.Rules.{rules}
 use Rattle.bits.proofs.part.Goals as goal
 
 -- the bytes from k on, as the slice `&s[k..]` has them

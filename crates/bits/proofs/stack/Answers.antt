@@ -6,7 +6,6 @@ use native.Mathlib.Omega.{arith}
 use lib.Pow.{pow_pos}
 use Rattle.bits.specs.Laws.{last_digits}
 use Rattle.bits.proofs.Laws.{or_shl}
-use borrow.Author.Rules.{rules}
 use Rattle.bits.proofs.stack.Goals as goal
 
 pub returns : goal.returns

@@ -1,6 +1,6 @@
 -- `sums::byte_sum` meets its contract. The invariant: the sum so far, with all that is left, is the sum of the whole. Assumes nothing.
-use Rattle.std.proofs.Common.{◌≡◌, ◌+◌, ◌-◌, ◌%◌, ◌<◌, ◌≤◌, length, drop, ap, arith, drop_of_length-le, rules}
-use Rattle.sums.specs.Sum.{total, byte_sum}
+use Rattle.std.proofs.Common.{ap, arith, drop_of_length-le}
+use Rattle.sums.specs.Sum.{total}
 use Rattle.sums.proofs.Laws.{total_step}
 use Rattle.sums.proofs.byte_sum.Goals as goal
 

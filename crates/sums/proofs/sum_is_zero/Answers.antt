@@ -1,5 +1,4 @@
 -- `sums::sum_is_zero` meets its contract.
-use Rattle.std.proofs.Common.{rules}
 use Rattle.sums.proofs.sum_is_zero.Goals as goal
 
 pub returns : goal.returns

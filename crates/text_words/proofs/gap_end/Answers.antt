@@ -1,10 +1,8 @@
 -- `text_words::gap_end` meets its contract. The invariant: what is left of the blanks ends where they all do. Assumes nothing.
-use Prim.Native.Nat.{◌+◌, ◌-◌, ◌≤◌}
-use mathlib.Core.Path.{◌≡◌, refl, sym, ◌∙◌}
+use mathlib.Core.Path.{refl, sym, ◌∙◌}
 use native.Mathlib.Omega.{arith}
-use lib.ListN.{length, drop}
 use borrow.Author.Rules.{rules}
-use Rattle.text_words.specs.Scan.{gap_length, gap_stops, gap_goes_on, gap_over}
+use Rattle.text_words.specs.Scan.{gap_stops, gap_goes_on, gap_over}
 use Rattle.text_words.proofs.gap_end.Goals as goal
 
 pub loop-k-init : goal.loop-k-init

@@ -1,6 +1,5 @@
 -- `text_words::is_blank` meets its contract: by its test. Assumes nothing.
 use borrow.Author.Tests.{eq-eqb, ne_eqb}
-use borrow.Author.Rules.{rules}
 use Rattle.text_words.proofs.is_blank.Goals as goal
 
 pub returns-then-b-eq32 : goal.returns-then-b-eq32

@@ -1,6 +1,6 @@
 -- `text_words::last_word` meets its contract: by where the walk stands. Assumes nothing.
 use native.Mathlib.Omega.{arith}
-use mathlib.Core.Path.{◌≡◌, sym, ap, ◌∙◌}
+use mathlib.Core.Path.{sym, ap, ◌∙◌}
 use Rattle.text_words.specs.Words.{last_word}
 use borrow.Author.Rules.{rules}
 use Rattle.text_words.specs.Walk.{last_behind, last_is}

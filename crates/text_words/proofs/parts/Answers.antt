@@ -1,5 +1,4 @@
 -- `text_words::parts` meets its contract: by its test. Assumes nothing.
-use borrow.Author.Rules.{rules}
 use Rattle.text_words.proofs.parts.Goals as goal
 
 pub returns-else-quoted : goal.returns-else-quoted

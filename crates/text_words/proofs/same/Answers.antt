@@ -1,11 +1,8 @@
 -- `text_words::same` meets its contract. The invariant: the words are the same where what is left of them is. Assumes nothing.
-use Prim.Native.Nat.{◌-◌, ◌≤◌}
-use mathlib.Core.Path.{◌≡◌, refl, sym, ◌∙◌}
+use mathlib.Core.Path.{refl, sym, ◌∙◌}
 use native.Mathlib.Omega.{arith}
-use lib.ListN.{length, drop}
 use borrow.Author.Rules.{rules}
-use Rattle.text_words.specs.Words.{same}
-use Rattle.text_words.specs.Same.{other_length, other_byte, same_byte, same_over}
+use Rattle.text_words.specs.Same.{other_length, same_over}
 use Rattle.text_words.proofs.same.Lts as lts
 use Rattle.text_words.proofs.same.Reads as reads
 use Rattle.text_words.proofs.same.Goals as goal

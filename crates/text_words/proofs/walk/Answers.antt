@@ -1,10 +1,10 @@
 -- `text_words::walk` meets its contract. The invariant: the word at hand is the one at index. Assumes nothing.
-use Prim.Native.Nat.{◌+◌, ◌-◌, ◌≤◌}
-use mathlib.Core.Path.{◌≡◌, refl, ◌∙◌}
+use Prim.Native.Nat.{◌+◌}
+use mathlib.Core.Path.{refl}
 use native.Mathlib.Omega.{arith}
 use borrow.Author.Tests.{ltb-false}
 use borrow.Author.Rules.{rules}
-use Rattle.text_words.specs.Walk.{At, Walked, begun, gap_inside, next}
+use Rattle.text_words.specs.Walk.{begun, gap_inside, next}
 use Rattle.text_words.proofs.walk.Goals as goal
 
 pub loop-index-init : goal.loop-index-init

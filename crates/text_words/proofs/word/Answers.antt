@@ -1,9 +1,8 @@
 -- `text_words::word` meets its contract: by where the walk stands. Assumes nothing.
 use Prim.Native.Nat.{◌<◌}
 use native.Mathlib.Omega.{arith}
-use mathlib.Core.Path.{◌≡◌, sym, ap, ◌∙◌}
+use mathlib.Core.Path.{sym, ap, ◌∙◌}
 use Rattle.text_words.specs.Words.{◌word◌}
-use borrow.Author.Rules.{rules}
 use Rattle.text_words.specs.Walk.{is_word, none_behind}
 use Rattle.text_words.proofs.word.Goals as goal
 

@@ -1,6 +1,5 @@
 -- `timing::across_of` meets its contract, by what its callees ensure. Assumes nothing.
 use mathlib.Core.Path.{◌≡◌}
-use borrow.Author.Rules.{rules}
 use Rattle.timing.specs.Axis.{pixels, across_with, across_of}
 use Rattle.timing.proofs.across_of.Goals as goal
 

@@ -1,6 +1,5 @@
 -- `timing::down_of` meets its contract, by what its callees ensure. Assumes nothing.
 use mathlib.Core.Path.{◌≡◌}
-use borrow.Author.Rules.{rules}
 use Rattle.bits.specs.Laws.{digits_under}
 use Rattle.timing.specs.Axis.{lines, down_with, down_of}
 use Rattle.timing.proofs.down_of.Goals as goal

@@ -1,5 +1,4 @@
 -- `timing::size_of` meets its contract, by what its callees ensure.
-use borrow.Author.Rules.{rules}
 use Rattle.timing.proofs.size_of.Goals as goal
 
 pub returns : goal.returns

@@ -1,5 +1,4 @@
 -- `timing::stereo_of` meets its contract, by what its callees ensure.
-use borrow.Author.Rules.{rules}
 use Rattle.timing.proofs.stereo_of.Goals as goal
 
 pub returns : goal.returns

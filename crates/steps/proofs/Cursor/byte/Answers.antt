@@ -1,6 +1,5 @@
 -- `steps::Cursor::byte` meets its contract: the test says whether a byte is there.
 -- Assumes nothing.
-use borrow.Author.Rules.{rules}
 use mathlib.Core.Path.{sym}
 use Rattle.steps.specs.Steps.{done}
 use Rattle.steps.specs.Leaves.{byte}

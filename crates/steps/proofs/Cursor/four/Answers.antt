@@ -1,7 +1,6 @@
 -- `steps::Cursor::four` meets its contract: a chain of reads, each a `step`. Assumes nothing.
 use mathlib.Core.Path.{sym, ◌∙◌}
-use borrow.Author.Rules.{rules}
-use Rattle.steps.specs.Laws.{step_two, SoFar}
+use Rattle.steps.specs.Laws.{step_two}
 use Rattle.steps.specs.Leaves.{four}
 use Rattle.steps.proofs.Cursor.four.Goals as goal
 
@@ -23,4 +22,4 @@ unfolding four
 returns-in-Got-two c =
     sym
     ((step_two _ _ _ c.two.ensures c.in-Got.is)
-      ∙ step_two _ _ _ c.two-in-Got.ensures c.in-Got-two.is)
+    ∙ step_two _ _ _ c.two-in-Got.ensures c.in-Got-two.is)

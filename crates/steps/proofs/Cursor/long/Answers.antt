@@ -1,7 +1,6 @@
 -- `steps::Cursor::long` meets its contract: a chain of reads, each a `step`. Assumes nothing.
 use mathlib.Core.Path.{sym, ap, ◌∙◌}
-use borrow.Author.Rules.{rules}
-use Rattle.steps.specs.Laws.{step, SoFar}
+use Rattle.steps.specs.Laws.{step}
 use Prim.Native.Nat.{ℕ}
 use Rattle.steps.specs.Steps.{got}
 use Rattle.steps.specs.Leaves.{word, long, of_word}
@@ -26,4 +25,4 @@ returns-in-Got-word c =
     ap (λ (w : ℕ). got w c.in-Got-word.last.at) c.long.ensures
     ∙ sym
     ((step of_word word _ _ _ c.word.ensures c.in-Got.is)
-      ∙ step of_word word _ _ _ c.word-in-Got.ensures c.in-Got-word.is)
+    ∙ step of_word word _ _ _ c.word-in-Got.ensures c.in-Got-word.is)

@@ -1,7 +1,6 @@
 -- `steps::Cursor::two` meets its contract: a chain of reads, each a `step`. Assumes nothing.
 use mathlib.Core.Path.{sym, ◌∙◌}
-use borrow.Author.Rules.{rules}
-use Rattle.steps.specs.Laws.{step, SoFar}
+use Rattle.steps.specs.Laws.{step}
 use Rattle.steps.specs.Leaves.{byte, two, of_byte}
 use Rattle.steps.proofs.Cursor.two.Goals as goal
 
@@ -23,4 +22,4 @@ unfolding two
 returns-in-Got-byte c =
     sym
     ((step of_byte byte _ _ _ c.byte.ensures c.in-Got.is)
-      ∙ step of_byte byte _ _ _ c.byte-2.ensures c.in-Got-byte.is)
+    ∙ step of_byte byte _ _ _ c.byte-2.ensures c.in-Got-byte.is)

@@ -1,7 +1,6 @@
 -- `steps::Cursor::word` meets its contract: a chain of reads, each a `step`. Assumes nothing.
 use mathlib.Core.Path.{sym, ap, ◌∙◌}
-use borrow.Author.Rules.{rules}
-use Rattle.steps.specs.Laws.{step_two, SoFar}
+use Rattle.steps.specs.Laws.{step_two}
 use Prim.Native.Nat.{ℕ}
 use Rattle.steps.specs.Steps.{got}
 use Rattle.steps.specs.Leaves.{word}

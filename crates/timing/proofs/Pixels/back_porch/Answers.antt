@@ -1,5 +1,4 @@
 -- `timing::Pixels::back_porch` meets its contract: each arm by what the numbers leave. Assumes nothing.
-use borrow.Author.Rules.{rules}
 use Rattle.timing.proofs.Pixels.back_porch.Goals as goal
 
 pub returns-in-Over : goal.returns-in-Over
