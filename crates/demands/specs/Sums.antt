@@ -5,7 +5,8 @@ use mathlib.Core.List.{List, [], ◌∷◌, ◌++◌, map, foldl, flatten, Foral
 use contract.Lifetimes.{Lfts}
 use Rattle.std.specs.Borrow.{Bor}
 use Rattle.sums.specs.Sum.{byte_sum}
-use Rattle.sums.specs.Joined.{plus, minus, checksum, empty, joined, shifted, sum_of_parts, checksum_makes_zero}
+use Rattle.sums.specs.Joined.{plus, minus, checksum, empty, joined, checksum_makes_zero}
+use Rattle.sums.proofs.Joined.{shifted, sum_of_parts}
 use Rattle.sums.proofs.byte_sum.Reads as byte-sum
 use Rattle.exports.proofs.edid_sum_is_zero.Reads as sum-is-zero
 use Rattle.demands.specs.Specimen.{specimen}

@@ -1,7 +1,6 @@
 -- Laws of the byte sum: of no bytes, of parts joined, of one byte changed, and of the byte that makes it zero.
-use Rattle.std.specs.Prelude.{◌≡◌, ℕ, zero, suc, ◌+◌, ◌-◌, ◌%◌, ◌<◌, ◌≤◌, List, [], ◌∷◌, ◌++◌, map, length, slice_index, slice_set, refl}
-use Rattle.std.proofs.Common.{sym, ap, ◌∙◌, arith}
-use mathlib.Core.List.{foldl, flatten, append-nil, append_assoc}
+use Rattle.std.specs.Prelude.{◌≡◌, ℕ, zero, suc, ◌+◌, ◌-◌, ◌%◌, ◌<◌, ◌≤◌, List, [], ◌∷◌, ◌++◌, length, slice_index, slice_set, refl}
+use Rattle.std.proofs.Common.{ap, arith}
 use Rattle.std.proofs.Math.Seq.{set_out}
 use Rattle.sums.specs.Sum.{total, byte_sum}
 
@@ -22,11 +21,6 @@ total_joined : (a b : List ℕ) → total (a ++ b) ≡ total a + total b
 total_joined [] b = omega arith
 total_joined (x ∷ a) b = omega (arith, total_joined a b)
 
-total_changed : (s : List ℕ) (i new : ℕ) → i < length s → total (slice_set s i new) + slice_index s i ≡ total s + new
-total_changed [] i new h = absurd (omega arith)
-total_changed (x ∷ s) zero new h = omega arith
-total_changed (x ∷ s) (suc i) new h = omega (arith, total_changed s i new (omega arith))
-
 -- ---- the three laws, of lists of any numbers
 
 pub empty : byte_sum [] ≡ 0
@@ -38,29 +32,17 @@ joined a b = omega (arith, total_joined a b)
 -- the new byte in, the old one out
 pub changed : (s : List ℕ) (i new : ℕ) → i < length s → plus (byte_sum (slice_set s i new)) (slice_index s i) ≡ plus (byte_sum s) new
 changed s i new h = omega (arith, total_changed s i new h)
-
--- so the sum is shifted by new minus old
-pub shifted : (s : List ℕ) (i new : ℕ) → i < length s → byte_sum (slice_set s i new) ≡ plus (byte_sum s) (minus new (slice_index s i))
-shifted s i new h = shift (byte_sum (slice_set s i new)) (byte_sum s) (slice_index s i) (omega arith) (changed s i new h)
   where
-    shift : (after before old : ℕ) → after < 256 → plus after old ≡ plus before new → after ≡ plus before (minus new old)
-    shift after before old b e = omega arith
+    total_changed : (s : List ℕ) (i new : ℕ) → i < length s → total (slice_set s i new) + slice_index s i ≡ total s + new
+    total_changed [] i new h = absurd (omega arith)
+    total_changed (x ∷ s) zero new h = omega arith
+    total_changed (x ∷ s) (suc i) new h = omega (arith, total_changed s i new (omega arith))
 
 -- a place outside changes nothing
 pub outside : (s : List ℕ) (i new : ℕ) → length s ≤ i → byte_sum (slice_set s i new) ≡ byte_sum s
 outside s i new h = ap byte_sum (set_out s i new h)
 
 -- ---- what is done with them
-
--- the sums of any number of parts, added one after the other, are the sum of the whole
-pub sum_of_parts : (ps : List (List ℕ)) → foldl plus 0 (map byte_sum ps) ≡ byte_sum (flatten ps)
-unfolding flatten
-sum_of_parts ps = behind [] ps
-  where
-    behind : (s : List ℕ) (ps : List (List ℕ)) → foldl plus (byte_sum s) (map byte_sum ps) ≡ byte_sum (s ++ flatten ps)
-    behind s [] = ap byte_sum (sym (append-nil s))
-    behind s (p ∷ ps) =
-        ap (λ (sum : ℕ). foldl plus sum (map byte_sum ps)) (sym (joined s p)) ∙ behind (s ++ p) ps ∙ ap byte_sum (append_assoc s p (flatten ps))
 
 -- the checksum is a byte, it makes the sum zero, and no other byte does
 pub checksum_makes_zero : (s : List ℕ) → (checksum s < 256) × (byte_sum (s ++ checksum s ∷ []) ≡ 0)
