@@ -1,4 +1,6 @@
 // The descriptor of a slot that holds no timing: what its tag names.
+#![tactic(auto)]
+
 ghost use Rattle.std.specs.Prelude.{◌≡◌};
 ghost use Rattle.steps.specs.Steps.{run};
 ghost use Rattle.crate_text.specs.Answers.{of_pass};

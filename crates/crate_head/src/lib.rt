@@ -1,4 +1,6 @@
 // The block's first 35 bytes: header, product, version, display and chromaticities. Each reader follows a `parse` of the source.
+#![tactic(auto)]
+
 ghost use Rattle.std.specs.Prelude.{◌≡◌};
 ghost use Rattle.steps.specs.Steps.{run};
 ghost use Rattle.crate_head.specs.Head.{header, maker_of, maker, date, product, version, input_of, input, size_of, gamma_from, kind_of, dpms_of, dpms, display, color, front};

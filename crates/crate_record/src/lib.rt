@@ -1,5 +1,7 @@
 // The crate reading's record, with the source's names: every type of it, one filler for each list, and its f32 numbers.
 // A field that a definition names has no `_` in its name.
+#![tactic(auto)]
+
 ghost use Rattle.std.specs.Prelude.{◌≡◌, ◌%◌};
 ghost use Rattle.crate_record.specs.Filler.{blank};
 ghost use Rattle.crate_record.specs.Single.{whole, gamma_of, chroma_of, coordinate, tenths_of, half_of, ratio_of, level_of};

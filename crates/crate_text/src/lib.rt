@@ -1,4 +1,6 @@
 // Runs of bytes as spans of the input: a text of at most 13 with its padding, raw runs, and bytes skipped.
+#![tactic(auto)]
+
 ghost use Rattle.std.specs.Prelude.{◌≡◌, ◌-◌};
 ghost use Rattle.steps.specs.Steps.{run};
 ghost use Rattle.crate_text.specs.Text.{scan, padding, text, skip, span};
