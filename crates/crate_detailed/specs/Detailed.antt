@@ -1,7 +1,7 @@
 -- A detailed timing, as the source reads it. Bytes have the source's names, cut short: hb is hb_low, hh is h_high, ho is hso_low.
 use Rattle.std.specs.Prelude.{ℕ, Bool, true, false, ◌||◌, cond, eqb, ltb}
 use Rattle.bits.specs.Fields.{digits, bit}
-use Rattle.steps.specs.Steps.{Steps, done, refuse, ◌>>=◌, ◌>>◌}
+use Rattle.steps.specs.Steps.{Steps, done, refuse, ◌>>=◌}
 use Rattle.steps.specs.Leaves.{byte, word}
 use Rattle.timing.specs.Axis.{across_of, down_of}
 use Rattle.timing.specs.Rest.{clock_of, size_of, border_of, polarity_of, stereo_of}

@@ -1,4 +1,6 @@
 // A detailed timing: 18 bytes, or 3 where they hold none.
+#![tactic(auto)]
+
 ghost use Rattle.std.specs.Prelude.{ℕ, ◌≡◌, List};
 ghost use Rattle.steps.specs.Steps.{run};
 ghost use Rattle.crate_detailed.specs.Detailed.{line_of, sync_by, sync_of, in_tenths, fitted, axes, timing_of, timed, detailed};

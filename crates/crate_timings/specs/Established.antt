@@ -2,7 +2,7 @@
 use Rattle.std.specs.Prelude.{ℕ, List, ◌++◌}
 use Rattle.bits.specs.Fields.{bit}
 use Rattle.fixed.specs.Gather.{gather, when}
-use Rattle.steps.specs.Steps.{Steps, done, ◌>>=◌, ◌>>◌}
+use Rattle.steps.specs.Steps.{Steps, done, ◌>>=◌}
 use Rattle.steps.specs.Leaves.{byte, word}
 
 -- each digit of ft that is on lists its number, 0 to 15; digit 7 of the last byte lists 16

@@ -3,7 +3,7 @@ use Rattle.std.specs.Prelude.{ℕ, zero, suc, ◌+◌, ◌-◌, ◌<◌, ◌≤�
 use Rattle.std.proofs.Math.Path.{sym, ap}
 use Rattle.std.proofs.Common.{◌∙◌}
 use Rattle.fixed.specs.Fixed.{put_room, more_room, put_full, more_full}
-use Rattle.steps.specs.Steps.{Steps, done, ◌>>=◌, ◌>>◌, refused, run, map}
+use Rattle.steps.specs.Steps.{Steps, done, ◌>>=◌, refused, run, map}
 use Rattle.steps.specs.Leaves.{byte, word}
 use Rattle.steps.specs.Laws.{step, same_run, zero_left, then_then, then_same}
 use Rattle.steps.specs.Laws as Turns

@@ -1,7 +1,7 @@
 -- Standard timings: pairs of bytes.
 use Rattle.std.specs.Prelude.{ℕ, zero, suc, ◌+◌, ◌*◌, ◌&&◌, cond, List, [], ◌∷◌, ◌++◌, eqb}
 use Rattle.bits.specs.Fields.{digits}
-use Rattle.steps.specs.Steps.{Steps, done, ◌>>=◌, ◌>>◌}
+use Rattle.steps.specs.Steps.{Steps, done, ◌>>=◌}
 use Rattle.steps.specs.Leaves.{byte}
 use Rattle.crate_record.specs.Single.{ratio_of}
 use Rattle.crate_record.specs.declared.StandardTiming.{StandardTiming}

@@ -1,4 +1,6 @@
 // The established flags and the standard timings: fixed lists with a length.
+#![tactic(auto)]
+
 ghost use Rattle.std.specs.Prelude.{◌≡◌, []};
 ghost use Rattle.steps.specs.Steps.{run, map};
 ghost use Rattle.steps.specs.Leaves.{Beside};
