@@ -1,5 +1,7 @@
 // The standard reading's record, by E-EDID structures 1.3 and 1.4, in whole numbers: every type of it, and one filler for each list.
 // A field that a definition names has no `_` in its name.
+#![tactic(auto)]
+
 ghost use Rattle.std.specs.Prelude.{◌≡◌};
 ghost use Rattle.standard_record.specs.Filler.{blank};
 
