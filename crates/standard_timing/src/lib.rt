@@ -1,5 +1,7 @@
 // The timing rule of the standard reading: 18 bytes to a detailed timing, or to `Over`, which is refusal 6. It knows no slot, and a clock
 // of 0, by which a caller tells that there is no timing, is a number to it as any other. Past the end of t every byte is 0.
+#![tactic(auto)]
+
 ghost use Rattle.std.specs.Prelude.{◌≡◌};
 ghost use Rattle.standard_timing.specs.Timing.{line_of, sync_by, sync_of, timed_by, clock_in, across_in, down_in, size_in, border_in, timing_in};
 

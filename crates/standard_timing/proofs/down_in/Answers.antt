@@ -1,0 +1,13 @@
+-- `standard_timing::down_in` meets its contract: by what its callees ensure. Assumes nothing.
+use Rattle.standard_timing.proofs.down_in.Goals as goal
+
+pub returns : goal.returns
+returns c =
+    rw (
+      c.down_of.ensures,
+      c.byte_at-5.ensures,
+      c.byte_at-4.ensures,
+      c.byte_at-3.ensures,
+      c.byte_at-2.ensures,
+      c.byte_at.ensures,
+    )
