@@ -1,5 +1,7 @@
 // What the standard reading makes of the bytes of each field, by E-EDID structures 1.3 and 1.4, and of a ratio by those before them too. Nothing here
 // knows where a slot stands: bytes are named by their place in the block or in their slot.
+#![tactic(auto)]
+
 ghost use Rattle.std.specs.Prelude.{◌≡◌, ◌≤◌};
 ghost use Rattle.shared_record.specs.Established.{established_timings};
 ghost use Rattle.standard_parts.specs.Head.{letter_of, maker_of, week_of, depth_of, digital_of, input_of, ratio_alone, image_of, gamma_of, type_of, tells_interface, kind_of, features_of};
@@ -315,6 +317,7 @@ fn ratio_of(structure: Structure, code: u8) -> Ratio
     }
 }
 
+#[tactic(auto, unfolding(crate::specs::Timings::pair_of))]
 pub fn pair_of(structure: Structure, low: u8, high: u8) -> Pair
     ensures { result ≡ pair_of structure low high }
 {
@@ -363,6 +366,7 @@ pub fn limits_of(offsets: u8, b5: u8, b6: u8, b7: u8, b8: u8, b9: u8) -> Limits
     }
 }
 
+#[tactic(auto, unfolding(crate::specs::Descriptors::secondary_of))]
 pub fn secondary_of(
     kind: u8,
     b12: u8,
@@ -398,6 +402,7 @@ pub fn closing_refusal(b: u8, spaces: bool) -> u8
     }
 }
 
+#[tactic(auto, unfolding(crate::specs::Descriptors::range_refusal))]
 pub fn range_refusal(kind: u8, b11: u8, spaces: bool) -> u8
     ensures { result ≡ range_refusal kind b11 spaces }
 {

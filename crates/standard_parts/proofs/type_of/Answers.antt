@@ -1,0 +1,11 @@
+-- `standard_parts::type_of` meets its contract: each arm says which number the code is, or that it is none of them. Assumes nothing.
+use Rattle.standard_parts.proofs.type_of.Goals as goal
+
+pub returns-in-0 : goal.returns-in-0
+returns-in-0 c = rw c.in-0.is
+
+pub returns-in-1 : goal.returns-in-1
+returns-in-1 c = rw c.in-1.is
+
+pub returns-in-2 : goal.returns-in-2
+returns-in-2 c = rw c.in-2.is
