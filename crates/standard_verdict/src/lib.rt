@@ -1,4 +1,6 @@
 // The standard reading's verdict on a block before its slots are looked at: refusals 7, 2, 8 and 9, in this order.
+#![tactic(auto)]
+
 ghost use Rattle.std.specs.Prelude.{◌≡◌, length};
 ghost use Rattle.standard_verdict.specs.Verdict.{refused_at, is_header, before_slots};
 
