@@ -1,4 +1,6 @@
 // The record of a CTA-861 extension: every type of it, and one filler for each list.
+#![tactic(auto)]
+
 ghost use Rattle.std.specs.Prelude.{◌≡◌};
 ghost use Rattle.cta_record.specs.Filler.{blank};
 
