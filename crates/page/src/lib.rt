@@ -1,5 +1,7 @@
 // Text appended to a page of 4,096 bytes that the caller lends. `at` is how many bytes of the page are used, and each
 // function answers how many are used after it. Where the page is full the rest is dropped.
+#![tactic(auto)]
+
 ghost use Rattle.std.specs.Prelude.{min, ◌≡◌, [], ◌∷◌, length, take, drop};
 ghost use Rattle.std.specs.Float.{binary32};
 ghost use Rattle.std.specs.Float.Ieee.{to_bits};

@@ -1,0 +1,12 @@
+-- `page::digit` meets its contract: the two ways of the test are those of `hex_digit`. Assumes nothing.
+use borrow.Author.Tests.{lt-ltb, le-ltb}
+use Rattle.page.specs.Words.{hex_digit}
+use Rattle.page.proofs.digit.Goals as goal
+
+pub returns-then-d-lt10 : goal.returns-then-d-lt10
+unfolding hex_digit
+returns-then-d-lt10 c = simp (lt-ltb _ _ c.if-d-lt10.true)
+
+pub returns-else-d-lt10 : goal.returns-else-d-lt10
+unfolding hex_digit
+returns-else-d-lt10 c = simp (le-ltb _ _ c.if-d-lt10.false)
