@@ -13,7 +13,7 @@ use Rattle.standard_record.specs.declared.Verdict.TheVariants.{Accepted, Refused
 use Rattle.standard_record.specs.declared.StandardReading.{StandardReading}
 use Rattle.shared_lines.specs.Lines.{extensions_line, refuse_line}
 use Rattle.standard_slot_lines.specs.Lines.{descriptor_fields}
-use Rattle.standard_lines.specs.Lines.{main_lines}
+use Rattle.standard_lines.specs.Main.{main_lines}
 
 -- ---- a text
 

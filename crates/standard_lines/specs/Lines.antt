@@ -129,9 +129,9 @@ standard_lines l = each standard_line (take (min l.len 26) l.items)
 
 -- ---- the whole
 
--- everything before the descriptors, which needs nothing of the input
-unfoldable pub main_lines : StandardRecord → List ℕ
-main_lines e = flat (
+-- of the input s
+unfoldable pub record_lines : List ℕ → StandardRecord → List ℕ
+record_lines s e = flat (
     product_line e.product ∷
     version_line e.version.version e.version.revision ∷
     display_lines e.display ∷
@@ -139,11 +139,9 @@ main_lines e = flat (
     white_lines e.color.points ∷
     established_line e.timings.established.items e.timings.established.len ∷
     standard_lines e.timings.standard ∷
-    detailed_lines e.timings.detailed ∷ [])
-
--- of the input s
-unfoldable pub record_lines : List ℕ → StandardRecord → List ℕ
-record_lines s e = flat (main_lines e ∷ descriptor_lines s e.descriptors ∷ extensions_line e.extensions ∷ [])
+    detailed_lines e.timings.detailed ∷
+    descriptor_lines s e.descriptors ∷
+    extensions_line e.extensions ∷ [])
 
 unfoldable pub judged_lines : List ℕ → StandardRecord → Verdict → List ℕ
 judged_lines s e Accepted = flat (text "accept\n" ∷ record_lines s e ∷ [])

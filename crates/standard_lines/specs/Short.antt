@@ -31,7 +31,8 @@ use Rattle.standard_record.specs.declared.Verdict.{Verdict}
 use Rattle.standard_record.specs.declared.Verdict.TheVariants.{Accepted, Refused}
 use Rattle.standard_record.specs.declared.StandardReading.{StandardReading}
 use Rattle.standard_slot_lines.specs.Short.{detailed_lengths, descriptor_lengths}
-use Rattle.standard_lines.specs.Lines.{letter, numbers, product_line, depth, input_line, size_line, gamma, gamma_line, kind, encodings, features_by, features_line, display_lines, chroma_line, white_line, white_lines, standard_line, standard_lines, main_lines, record_lines, judged_lines, listing_of}
+use Rattle.standard_lines.specs.Main.{main_lines}
+use Rattle.standard_lines.specs.Lines.{letter, numbers, product_line, depth, input_line, size_line, gamma, gamma_line, kind, encodings, features_by, features_line, display_lines, chroma_line, white_line, white_lines, standard_line, standard_lines, record_lines, judged_lines, listing_of}
 
 letter_length : (b : ℕ) → length (letter b) ≤ 2
 unfolding letter
@@ -181,7 +182,19 @@ record_length : (s : List ℕ) (e : StandardRecord) → length (record_lines s e
 unfolding record_lines flat
 record_length s e =
     simp length-append
-    (omega (arith, main_length e, descriptor_lengths s e.descriptors, extensions_length e.extensions))
+    (omega (
+      arith,
+      product_length e.product,
+      version_length e.version.version e.version.revision,
+      display_length e.display,
+      chroma_length e.color.basic,
+      white_lengths e.color.points,
+      established_length e.timings.established.items e.timings.established.len,
+      standard_lengths e.timings.standard,
+      detailed_lengths e.timings.detailed,
+      descriptor_lengths s e.descriptors,
+      extensions_length e.extensions,
+    ))
 
 judged_length : (s : List ℕ) (e : StandardRecord) (t : Verdict) → length (judged_lines s e t) ≤ 2242
 unfolding judged_lines flat

@@ -2,6 +2,7 @@
 ghost use Rattle.std.specs.Prelude.{◌≡◌, take, drop};
 ghost use Rattle.page.specs.Page.{page, ◌▷◌};
 ghost use Rattle.standard_lines.specs.Lines as lines;
+ghost use Rattle.standard_lines.specs.Main.{main_lines};
 
 use standard_record::{
     Chromaticities, Depth, Display, DisplayType, Features, Gamma, HeldPair, HeldPoint, ImageSize,
@@ -282,7 +283,7 @@ fn standard_lines(out: &mut [u8; 4096], at: usize, l: StandardTimings) -> usize
 
 // Everything before the descriptors.
 pub fn main_lines(out: &mut [u8; 4096], at: usize, e: StandardRecord) -> usize
-    ensures { page out.new result ≡ page out.old at ▷ lines.main_lines e }
+    ensures { page out.new result ≡ page out.old at ▷ main_lines e }
 {
     let flags = e.timings.established.items;
     let mut n = product_line(out, at, e.product);

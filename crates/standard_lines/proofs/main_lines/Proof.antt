@@ -1,7 +1,7 @@
 -- `standard_lines::main_lines` meets its contract. Assumes nothing.
 use borrow.Author.Rules.{rules}
 use Rattle.page.specs.Laws.{◌so◌, done, line}
-use Rattle.standard_lines.specs.Lines.{main_lines}
+use Rattle.standard_lines.specs.Main.{main_lines}
 use Rattle.standard_lines.proofs.main_lines.Statement.{statement}
 use Rattle.standard_lines.proofs.main_lines.Tie as tie
 
