@@ -1,4 +1,6 @@
 // What the writer's leaves have in common. A leaf answers with the bytes of a value and with `fits`: whether any bytes at all are read as it.
+#![tactic(auto)]
+
 ghost use Rattle.std.specs.Prelude.{◌≡◌, ◌&&◌, ◌≤◌};
 ghost use Rattle.write_leaf.specs.Bytes.{digit};
 
