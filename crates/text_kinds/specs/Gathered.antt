@@ -1,6 +1,6 @@
 -- Bytes gathered one after the other: how far, and what that comes to.
 use Prim.Native.Nat.{ℕ, zero, suc, ◌+◌, ◌<◌, ◌≤◌}
-use Rattle.std.specs.Prelude.{Bool, true, false, List, [], ◌∷◌, ◌++◌, ◌≡◌, refl, length, take, set}
+use Rattle.std.specs.Prelude.{Bool, true, List, [], ◌∷◌, ◌++◌, ◌≡◌, refl, length, take, set}
 use Rattle.std.proofs.Common.{append-nil, append_assoc, sym, ap, ap₂, ◌∙◌, add-one, arith, length-take, length-set, take-suc-set}
 use Rattle.std.proofs.Math.Option.{Option, none, some}
 use Rattle.fixed.specs.Fixed.{pad, count, put, put_room, put_pad}

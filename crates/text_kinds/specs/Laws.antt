@@ -1,14 +1,14 @@
 -- What the proofs of `text_kinds` use: words byte after byte.
-use Rattle.std.specs.Prelude.{ℕ, suc, ◌+◌, ◌-◌, ◌*◌, ◌<◌, ◌≤◌, Bool, true, false, cond, not, ◌&&◌, ◌||◌, ◌≡◌, refl, eqb, leb, length, get_or, drop}
+use Rattle.std.specs.Prelude.{ℕ, ◌+◌, ◌-◌, ◌*◌, ◌<◌, ◌≤◌, Bool, true, false, cond, not, ◌&&◌, ◌||◌, ◌≡◌, refl, eqb, leb, length, get_or, drop}
 use mathlib.Core.List.{List, [], ◌∷◌}
 use Rattle.std.proofs.Math.Option.{Option, none, some}
-use Rattle.std.proofs.Common.{sym, ap, ◌∙◌, add-one, arith, leb-true, leb-false, le-leb, length-drop, drop_of_length-le}
+use Rattle.std.proofs.Common.{sym, ap, ◌∙◌, add-one, arith, leb-true, le-leb, length-drop, drop_of_length-le}
 use Rattle.std.proofs.lemmas.Bool.{lt-leb}
 use Rattle.std.proofs.Math.Seq.{drop-cons}
 use Rattle.text_words.specs.Words.{same}
 use Rattle.text_kinds.specs.Answers.{Reads, kept_of}
 use Rattle.text_kinds.specs.declared.Number.{Number}
-use Rattle.text_kinds.specs.Kinds.{within, is_digit, all_digits, is_led, value, is_letter, is_capital, letter_of, is_hex, Piece, wrong, escape, closing, piece, bytes_from, text_of, run_of, is_some, may_be, may, fits, is_number, number_of}
+use Rattle.text_kinds.specs.Kinds.{within, is_digit, all_digits, is_led, value, is_letter, is_capital, letter_of, is_hex, wrong, escape, closing, piece, bytes_from, text_of, run_of, is_some, may_be, may, fits, is_number, number_of}
 
 pub and_false : (t : Bool) → (t && false) ≡ false
 and_false true = refl

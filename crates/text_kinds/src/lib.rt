@@ -1,4 +1,6 @@
 // What the words of a line stand for, and the forms of lines. A word that is missing is the empty one, which stands for nothing.
+#![tactic(auto)]
+
 ghost use Rattle.std.specs.Prelude.{◌+◌, ◌*◌, ◌≤◌, ◌≡◌, true, false, ◌&&◌, eqb, leb, length, drop};
 ghost use Rattle.std.proofs.Math.Option.{none};
 ghost use Rattle.text_words.specs.Words.{words, same, ◌word◌};

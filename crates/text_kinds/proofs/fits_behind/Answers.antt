@@ -6,8 +6,7 @@ use native.Mathlib.Omega.{arith}
 use borrow.Author.Tests.{leb-true, leb-false, lt-leb, le-leb}
 use lib.Dec.{leb}
 use borrow.Author.Rules.{rules}
-use Rattle.text_kinds.proofs.fits_behind.Statement.{statement}
-use Rattle.text_kinds.proofs.fits_behind.Tie as tie
+use Rattle.text_kinds.proofs.fits_behind.Goals as goal
 
 divided : (v d most : ℕ) → d ≤ most → leb v ((most - d) / 10) ≡ leb (10 * v + d) most
 divided v d most h = go (leb (10 * v + d) most) refl
@@ -16,11 +15,8 @@ divided v d most h = go (leb (10 * v + d) most) refl
     go true e = le-leb v ((most - d) / 10) (omega (arith, leb-true (10 * v + d) most e))
     go false e = lt-leb v ((most - d) / 10) (omega (arith, leb-false (10 * v + d) most e))
 
-returns : tie.Need-returns
-returns c = let a = c.before.args in sym (lt-leb (10 * a.v + a.d) a.most (omega arith))
+pub returns-then-d-most : goal.returns-then-d-most
+returns-then-d-most c = let a = c.args in sym (lt-leb (10 * a.v + a.d) a.most (omega arith))
 
-returns_2 : tie.Need-returns-2
-returns_2 c = let a = c.before.args in divided a.v a.d a.most (search rules)
-
-pub fits_behind_spec : {M : Type 1} → statement M
-fits_behind_spec = tie.close (tie.spec returns returns_2)
+pub returns : goal.returns
+returns c = let a = c.args in divided a.v a.d a.most (search rules)
