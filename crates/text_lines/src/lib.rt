@@ -1,4 +1,6 @@
 // The lines of a text that count, and their numbers.
+#![tactic(auto)]
+
 ghost use Rattle.std.specs.Prelude.{◌+◌, ◌≤◌, ◌≡◌, length, drop};
 ghost use Rattle.text_lines.specs.Lines.{is_idle, content, line_number, line_at};
 ghost use Rattle.text_lines.specs.Scan.{line_length};
