@@ -1,4 +1,6 @@
 // The 18 bytes of a detailed timing: the timing rule the other way round.
+#![tactic(auto)]
+
 ghost use Rattle.std.specs.Prelude.{◌≡◌, ◌≤◌};
 ghost use Rattle.write_timing.specs.Timing.{stereo_code, line_code, polarity_code, sync_code, last_of, across_blank, down_blank, porch_code, across_excess, down_excess, edge_excess, excess, fits_timing, WritesTiming};
 
