@@ -1,4 +1,6 @@
 // The marks of a block: what it holds, at fixed places, that the two readings take for different things. And the words that list them.
+#![tactic(auto)]
+
 ghost use Rattle.std.specs.Prelude.{◌≡◌, ◌||◌, take, drop};
 ghost use Rattle.page.specs.Page.{page, ◌▷◌};
 ghost use Rattle.marking.specs.Marks.{clockless, tagged, active_low_zero, index_zero, gamma_ff, code_zero, codes_zero, marks_in};
