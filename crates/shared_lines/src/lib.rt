@@ -1,4 +1,6 @@
 // The lines, and the parts of lines, that the listings of both readings have in common, appended to a page.
+#![tactic(auto)]
+
 ghost use Rattle.std.specs.Prelude.{◌≡◌};
 ghost use Rattle.page.specs.Page.{page, ◌▷◌};
 ghost use Rattle.page.specs.Words.{field8, each};
