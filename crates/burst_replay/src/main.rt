@@ -1,82 +1,77 @@
 // Answers many scripts of bursts in one run, to be held to edid-rs. A script of standard input is the number of its bursts in 16 bits, low
 // byte first, then each burst, its length in 16 bits and as many bytes. For each burst a line says what is told after it, `waiting` or the
 // answer; after the last one the crate listing of the final answer is written, then a line `--`.
+#![tactic(auto)]
+
 use bursts::Report;
+use frames::Came;
+use std::io;
+use std::io::{Read, Write};
 use steps::Cursor;
 
 // A proved loop has to end, and nothing says that the input does: it counts to a number that no run reaches.
 const MOST: u64 = 4294967296;
 
-fn main() {
-    let mut space = io::large_buffer();
-    let mut out = io::buffer();
-    let mut number: u64 = 0;
-    while number < MOST && answer_one(number, &mut space, &mut out) {
-        number += 1;
+fn main(rt: HostRuntime) -> io::Result<()> {
+    let mut space = [0u8; 65536];
+    let mut out = [0u8; 4096];
+    for number in 0..MOST {
+        match answer_one(&mut rt.stdin(), &mut rt.stdout(), &mut space, &mut out)? {
+            Script::Whole => {}
+            Script::None => break,
+            Script::Part => return eprintln!(rt; "script {number} is cut short"),
+        }
     }
+    Ok(())
 }
 
-// Reads one script and answers it; whether to go on.
-fn answer_one(number: u64, space: &mut [u8; 65536], out: &mut [u8; 4096]) -> bool {
+// What was read of a script.
+#[derive(Clone, Copy)]
+enum Script {
+    Whole,
+    None,
+    Part,
+}
+
+// Reads one script and answers it.
+fn answer_one<R: Read, W: Write>(
+    input: &mut R,
+    output: &mut W,
+    space: &mut [u8; 65536],
+    out: &mut [u8; 4096],
+) -> io::Result<Script> {
     let mut head = [0u8; 2];
-    let got = io::read_full(0, &mut head);
+    let got = frames::fill(input, &mut head)?;
     if got == 0 {
-        return false;
+        return Ok(Script::None);
     }
-    if got != 2 {
-        return complain(number);
+    if got < 2 {
+        return Ok(Script::Part);
     }
     let mut state = [0u8; 146];
-    if !answer_bursts(number, bits::word(head[0], head[1]), &mut state, space, out) {
-        return false;
-    }
-    answer_end(&state, out)
-}
-
-// Reads as many bursts and answers each; whether to go on.
-fn answer_bursts(
-    number: u64,
-    count: u16,
-    state: &mut [u8; 146],
-    space: &mut [u8; 65536],
-    out: &mut [u8; 4096],
-) -> bool {
-    let mut i: u16 = 0;
-    while i < count {
-        if !answer_burst(number, state, space, out) {
-            return false;
+    for _ in 0..u16::from_le_bytes(head) {
+        if !answer_burst(input, output, &mut state, space, out)? {
+            return Ok(Script::Part);
         }
-        i += 1;
     }
-    true
+    answer_end(output, &state, out)?;
+    Ok(Script::Whole)
 }
 
-// Reads one burst, hands it over and writes what is told; whether to go on.
-fn answer_burst(
-    number: u64,
+// Reads one burst, hands it over and writes what is told; whether it was there.
+fn answer_burst<R: Read, W: Write>(
+    input: &mut R,
+    output: &mut W,
     state: &mut [u8; 146],
     space: &mut [u8; 65536],
     out: &mut [u8; 4096],
-) -> bool {
-    let mut head = [0u8; 2];
-    if io::read_full(0, &mut head) != 2 {
-        return complain(number);
-    }
-    let n = bits::word(head[0], head[1]) as usize;
-    if read_start(space, n) != n {
-        return complain(number);
-    }
+) -> io::Result<bool> {
+    let Came::All(n) = frames::read_frame(input, space)? else {
+        return Ok(false);
+    };
     let end = report_line(out, bursts::take(state, start(space, n)));
-    io::write_all(1, frames::start(out, end))
-}
-
-// Reads n bytes to the start of space, where it has as many.
-fn read_start(space: &mut [u8], n: usize) -> usize {
-    if n <= space.len() {
-        io::read_full(0, &mut space[0..n])
-    } else {
-        0
-    }
+    output.write_all(frames::start(out, end))?;
+    Ok(true)
 }
 
 // The first n bytes, all of them where there are fewer.
@@ -100,17 +95,9 @@ fn accept_line(out: &mut [u8; 4096], c: Cursor) -> usize {
     page::newline(out, n)
 }
 
-// Writes the listing of the final answer; whether that went well.
-fn answer_end(state: &[u8; 146], out: &mut [u8; 4096]) -> bool {
+// Writes the listing of the final answer.
+fn answer_end<W: Write>(output: &mut W, state: &[u8; 146], out: &mut [u8; 4096]) -> io::Result<()> {
     let listed = crate_lines::listing(out, bursts::held(state), bursts::finish(state));
     let end = page::bytes(out, listed, b"--\n");
-    io::write_all(1, frames::start(out, end))
-}
-
-// A line on standard error, and no further script.
-fn complain(number: u64) -> bool {
-    io::write_all(2, b"script ");
-    io::print_decimal(2, number);
-    io::write_all(2, b" is cut short\n");
-    false
+    output.write_all(frames::start(out, end))
 }

@@ -1,85 +1,65 @@
 // Answers many pairs of blocks in one run, to be held to tools/namer.py. A frame of standard input is the panel's block and then the reference block, each
 // as its length in 16 bits, low byte first, then as many bytes, at most 4,096; for each frame the line of the name to show is written, then a line `--`.
+#![tactic(auto)]
+
+use frames::Came;
+use std::io;
+use std::io::{Eprint, Read, Write};
 
 // A proved loop has to end, and nothing says that the input does: it counts to a number that no run reaches.
 const MOST: u64 = 4294967296;
 
-const LONGEST: usize = 4096;
-
-// What was read of a block: its length, nothing, a part of it, or a length above 4,096.
-#[derive(Clone, Copy)]
-enum Came {
-    All(usize),
-    Nothing,
-    Part,
-    TooLong,
-}
-
-fn main() {
-    let mut number: u64 = 0;
-    while number < MOST && answer_one(number) {
-        number += 1;
+fn main(rt: HostRuntime) -> io::Result<()> {
+    for number in 0..MOST {
+        if !answer_one(&mut rt.stdin(), &mut rt.stdout(), &rt, number)? {
+            break;
+        }
     }
+    Ok(())
 }
 
 // Reads one frame and answers it; whether to go on.
-fn answer_one(number: u64) -> bool {
+fn answer_one<R: Read, W: Write, E: Eprint>(
+    input: &mut R,
+    output: &mut W,
+    errors: &E,
+    number: u64,
+) -> io::Result<bool> {
     let mut panel = [0u8; 4096];
     let mut reference = [0u8; 4096];
-    match read_block(&mut panel) {
-        Came::Nothing => false,
-        Came::Part => complain(number, b" is cut short\n"),
-        Came::TooLong => complain(number, b" is longer than 4096\n"),
-        Came::All(n) => match read_block(&mut reference) {
-            Came::Nothing => complain(number, b" is cut short\n"),
-            Came::Part => complain(number, b" is cut short\n"),
-            Came::TooLong => complain(number, b" is longer than 4096\n"),
-            Came::All(m) => answer(frames::start(&panel, n), frames::start(&reference, m)),
+    match frames::read_frame(input, &mut panel)? {
+        Came::Nothing => Ok(false),
+        Came::Part => cut_short(errors, number),
+        Came::TooLong => too_long(errors, number),
+        Came::All(n) => match frames::read_frame(input, &mut reference)? {
+            Came::Nothing => cut_short(errors, number),
+            Came::Part => cut_short(errors, number),
+            Came::TooLong => too_long(errors, number),
+            Came::All(m) => answer(
+                output,
+                frames::start(&panel, n),
+                frames::start(&reference, m),
+            ),
         },
     }
 }
 
-// Reads a block to the start of body.
-fn read_block(body: &mut [u8]) -> Came {
-    let mut head = [0u8; 2];
-    let got = io::read_full(0, &mut head);
-    if got == 0 {
-        return Came::Nothing;
-    }
-    if got != 2 {
-        return Came::Part;
-    }
-    let n = bits::word(head[0], head[1]) as usize;
-    if n > LONGEST {
-        return Came::TooLong;
-    }
-    if read_start(body, n) != n {
-        return Came::Part;
-    }
-    Came::All(n)
-}
-
-// Reads n bytes to the start of body, where it has as many.
-fn read_start(body: &mut [u8], n: usize) -> usize {
-    if n <= body.len() {
-        io::read_full(0, &mut body[0..n])
-    } else {
-        0
-    }
-}
-
-// Writes the line of a frame; whether that went well.
-fn answer<'a>(panel: &'a [u8], reference: &'a [u8]) -> bool {
+// Writes the line of a frame, after which the next one is read.
+fn answer<'a, W: Write>(output: &mut W, panel: &'a [u8], reference: &'a [u8]) -> io::Result<bool> {
     let mut out = [0u8; 4096];
     let listed = name_lines::listing(&mut out, panel, reference);
     let end = page::bytes(&mut out, listed, b"--\n");
-    io::write_all(1, frames::start(&out, end))
+    output.write_all(frames::start(&out, end))?;
+    Ok(true)
 }
 
 // A line on standard error, and no further frame.
-fn complain(number: u64, what: &[u8]) -> bool {
-    io::write_all(2, b"frame ");
-    io::print_decimal(2, number);
-    io::write_all(2, what);
-    false
+fn cut_short<E: Eprint>(errors: &E, number: u64) -> io::Result<bool> {
+    eprintln!(errors; "frame {number} is cut short")?;
+    Ok(false)
+}
+
+fn too_long<E: Eprint>(errors: &E, number: u64) -> io::Result<bool> {
+    eprintln!(errors; "frame {number} is longer than 4096")?;
+    Ok(false)
 }

@@ -1,10 +1,10 @@
 // Reads at most 4,096 bytes of standard input and prints the text of the panel.
-fn main() {
-    let mut buf = io::buffer();
-    let n = io::read_full(0, &mut buf);
-    let mut out = [0u8; 4096];
-    let end = print(&mut out, &buf[..n]);
-    io::write_all(1, frames::start(&out, end));
+#![tactic(auto)]
+
+use std::io;
+
+fn main(rt: HostRuntime) -> io::Result<()> {
+    frames::answer_input(&mut rt.stdin(), &mut rt.stdout(), print)
 }
 
 fn print(out: &mut [u8; 4096], s: &[u8]) -> usize {

@@ -1,8 +1,13 @@
 // A register's file from standard input to standard output, from one form to the other. A batch of records is read, stepped and written at a time, so
 // the memory is the same for a file of any length.
+#![tactic(auto)]
+
 ghost use Rattle.std.specs.Prelude.{◌<◌, ◌≤◌, min, ◌≡◌, length, take};
 ghost use Rattle.register.specs.Register.{into};
 ghost use Rattle.register_file.specs.File.{step_of, from_of, to_of, converted};
+
+use std::io::{Eprint, Read, Write};
+use std::os::fd::AsFd;
 
 // The records of a batch: as many as a buffer of 65,536 bytes has room for in their longer form.
 const BATCH: usize = 248;
@@ -103,20 +108,26 @@ fn step_all(way: Way, source: &[u8], output: &mut [u8]) -> Batch
 // ---- input and output
 
 // Reads until the space is full, the input ends or a read fails.
-fn fill(space: &mut [u8]) -> Filled
+fn fill<R: Read>(input: &mut R, space: &mut [u8]) -> Filled
     ensures { (result.count ≤ length space.old) × (length space.new ≡ length space.old) }
 {
     let mut count: usize = 0;
     while count < space.len() {
-        let got = libc::read(0, &mut space[count..]);
-        let more = io::count(got, &space[count..]);
-        if more == 0 {
-            return Filled {
-                count,
-                failed: got < 0,
-            };
+        match input.read(&mut space[count..]) {
+            Ok(0) => {
+                return Filled {
+                    count,
+                    failed: false,
+                };
+            }
+            Ok(more) => count += more,
+            Err(_) => {
+                return Filled {
+                    count,
+                    failed: true,
+                };
+            }
         }
-        count += more;
     }
     Filled {
         count,
@@ -124,29 +135,15 @@ fn fill(space: &mut [u8]) -> Filled
     }
 }
 
-// A line on standard error begins with the index of a record; where it stands.
-fn begin(line: &mut [u8; 4096], index: u64) -> usize {
-    let mut digits = [0u8; 20];
-    let n = io::decimal(index, &mut digits);
-    page::bytes(line, 0, &digits[..n])
-}
-
-// The line of a read or a write that failed, and no further batch.
-fn fail(index: u64, what: &[u8]) -> bool {
-    let mut line = io::buffer();
-    let n = begin(&mut line, index);
-    let end = page::bytes(&mut line, n, what);
-    io::write_all(2, frames::start(&line, end));
+// The line of a read or a write that failed, and no further batch. Where the line cannot be written there is nobody to tell.
+fn fail<E: Eprint>(errors: &E, index: u64, what: &str) -> bool {
+    let _ = eprintln!(errors; "{index} {what}");
     false
 }
 
 // The line of a refused record.
-fn refuse(index: u64, number: u8) -> bool {
-    let mut line = io::buffer();
-    let n = begin(&mut line, index);
-    let m = page::field(&mut line, n, number as usize);
-    let end = page::newline(&mut line, m);
-    io::write_all(2, frames::start(&line, end));
+fn refuse<E: Eprint>(errors: &E, index: u64, number: u8) -> bool {
+    let _ = eprintln!(errors; "{index} {number}");
     false
 }
 
@@ -163,38 +160,53 @@ fn end_of(came: Filled, from: usize) -> usize
 }
 
 // Reads a batch, steps it and writes what it is now; whether to go on. Where the write fails, the index told is that of the batch's first record.
-fn convert_batch(way: Way, index: u64, source: &mut [u8], output: &mut [u8]) -> bool
+fn convert_batch<R: Read, W: Write, E: Eprint>(
+    input: &mut R,
+    target: &mut W,
+    errors: &E,
+    way: Way,
+    index: u64,
+    source: &mut [u8],
+    output: &mut [u8],
+) -> bool
     requires { (index < 9223372036854775808) × (length source.old ≡ 65536) × (length output.old ≡ 65536) }
 {
     let from = from(way);
     let size = BATCH * from;
-    let came = fill(&mut source[0..size]);
+    let came = fill(input, &mut source[0..size]);
     let end = end_of(came, from);
     let batch = step_all(way, &source[0..end], output);
     let written = batch.written;
-    if !io::write_all(1, &output[0..written]) {
-        return fail(index, b" write failed\n");
+    if target.write_all(&output[0..written]).is_err() {
+        return fail(errors, index, "write failed");
     }
     let next = index + batch.records as u64;
     if batch.number != 0 {
-        return refuse(next, batch.number);
+        return refuse(errors, next, batch.number);
     }
     if came.failed {
-        return fail(next, b" read failed\n");
+        return fail(errors, next, "read failed");
     }
     came.count == size
 }
 
-// The whole file. What is read and written no contract can say, and nothing comes back, so there is none. What shows only when the output is closed is
-// told too.
-pub fn convert(way: Way) {
-    let mut source = io::large_buffer();
-    let mut output = io::large_buffer();
+// The whole file.
+fn convert_all<R: Read, W: Write, E: Eprint>(input: &mut R, target: &mut W, errors: &E, way: Way) {
+    let mut source = [0u8; 65536];
+    let mut output = [0u8; 65536];
     let mut index: u64 = 0;
-    while index < MOST && convert_batch(way, index, &mut source, &mut output) {
+    while index < MOST
+        && convert_batch(input, target, errors, way, index, &mut source, &mut output)
+    {
         index += BATCH as u64;
     }
-    if libc::close(1) < 0 {
-        io::write_all(2, b"close failed\n");
+}
+
+// The whole file, from standard input to standard output. What is read and written no contract can say, and nothing comes back, so there is none. A
+// standard output that is not open is told too.
+pub fn convert(rt: &HostRuntime, way: Way) {
+    convert_all(&mut rt.stdin(), &mut rt.stdout(), rt, way);
+    if rt.stdout().as_fd().try_clone_to_owned().is_err() {
+        let _ = eprintln!(rt; "close failed");
     }
 }

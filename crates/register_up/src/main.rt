@@ -1,6 +1,8 @@
 // A register's file of short records on standard input, as one of long records on standard output.
+#![tactic(auto)]
+
 use register_file::Way;
 
-fn main() {
-    register_file::convert(Way::Up);
+fn main(rt: HostRuntime) {
+    register_file::convert(&rt, Way::Up);
 }

@@ -1,14 +1,13 @@
 // Reads a block from standard input and writes the 128 bytes that the writer makes of its standard reading: the same record, each byte as the
 // writer has it. A block that the reading refuses is answered by the line `refuse`, number and place.
+#![tactic(auto)]
+
 use standard_record::{StandardRecord, Verdict};
+use std::io;
 use steps::Refusal;
 
-fn main() {
-    let mut buf = io::buffer();
-    let n = io::read_full(0, &mut buf);
-    let mut out = [0u8; 4096];
-    let end = rewrite(&mut out, &buf[..n]);
-    io::write_all(1, frames::start(&out, end));
+fn main(rt: HostRuntime) -> io::Result<()> {
+    frames::answer_input(&mut rt.stdin(), &mut rt.stdout(), rewrite)
 }
 
 fn rewrite(out: &mut [u8; 4096], s: &[u8]) -> usize {

@@ -1,10 +1,14 @@
 // For the simulator's people, to copy from: a record is read from a block, its picture is moved, its name changed, and it is written to a block again;
 // then what is refused: an output of another length, and two records. Printed are the timing before, and of each writing the answer and the output, of
 // the first the new timing too.
+#![tactic(auto)]
+
 use standard_record::{Descriptor, Held, HeldPair, Ratio, StandardRecord, StandardTiming};
+use std::io;
+use std::io::Write;
 use steps::Span;
 
-fn main() {
+fn main(rt: HostRuntime) -> io::Result<()> {
     // A panel of 800 by 600 with the name LOBBY: docs/specimen.bin, two lines of its head, one of pairs, one for each slot. Behind it another name.
     let lent = b"\
         \x00\xff\xff\xff\xff\xff\xff\x00\x04\x43\x34\x12\x01\x00\x00\x00\x0a\x1e\x01\x03\
@@ -39,7 +43,7 @@ fn main() {
     n = tell(&mut out, n, eleven, &kept);
     let old = standard_writing::write_standard(of_revision(square, 2), lent, &mut kept);
     n = tell(&mut out, n, old, &kept);
-    io::write_all(1, frames::start(&out, n));
+    rt.stdout().write_all(frames::start(&out, n))
 }
 
 fn tell(out: &mut [u8; 4096], at: usize, answer: u8, block: &[u8]) -> usize {
