@@ -1,6 +1,6 @@
 /* The crate reading's answers on one EDID block, at once or in bursts, and, by the standard reading, which timing of it to show and which name, for C on
- * x86-64: link target/staticlib/libexports.a, and for the name target/staticlib/libname_exports.a, which `rt staticlib exports` and
- * `rt staticlib name_exports` prove and make; and, at the end, the block of a panel's text.
+ * x86-64: link target/staticlib/libexports.a, and for the name target/staticlib/libname_exports.a, which `tools/archives` proves and
+ * makes; and, at the end, the block of a panel's text.
  *
  * Each function reads the bytes that it is handed and nothing else, keeps nothing, and ends for every length and all bytes; edid_burst writes the
  * state, edid_pick the numbers lent to it, edid_block_of_text the bytes lent to it, and no other writes anything. The caller promises that these bytes can be read, and the state of edid_burst
@@ -94,7 +94,7 @@ size_t edid_name_length(const uint8_t *panel, size_t panel_length, const uint8_t
 
 /* ---- a panel's text to its block
  *
- * Link target/staticlib/libpanel_exports.a, which `rt staticlib panel_exports` proves and makes. The text is what the program panel_text prints; a person may
+ * Link target/staticlib/libpanel_exports.a, which `tools/archives` proves and makes. The text is what the program panel_text prints; a person may
  * change its numbers and its texts in quotes, and add blank lines, lines that begin with #, and more spaces and tabs between words. docs/PANEL-TEXT.md has
  * the form of each line. */
 

@@ -1,12 +1,6 @@
-# For the tools to source, in the repository's folder: where the Rattle kit is, how crates are proved, and how a program for x86-64 is compiled
-# from C and run on this machine.
-kit=${RATTLE_HOME:-$(dirname "$(dirname "$(readlink -f "$(command -v rt)")")")}/on/$(uname -m)/toolchain
-emulator=$kit/bin/qemu-x86_64 # the kit has one where the processor is another
-[ -x "$emulator" ] || emulator=
-case $(uname -m) in
-x86_64) cc=cc cc_packages="gcc libc6-dev" ;;
-*) cc=x86_64-linux-gnu-gcc cc_packages="gcc-x86-64-linux-gnu libc6-dev-amd64-cross" ;;
-esac
+# For the tools to source, in the repository's folder: where the Rattle kit is, how crates are proved and built, and how a program is compiled from C.
+kit=$(dirname "$(dirname "$(readlink -f "$(command -v rt)")")")
+cc=cc cc_packages="gcc libc6-dev"
 
 # Runs a command, and shows what it says only where it fails.
 quietly() { # COMMAND WORD..
@@ -25,54 +19,69 @@ needed() { # NAME
             n = split(needs[crate], below, " ")
             for (k = 1; k <= n; k++) visit(below[k])
         }
-        /^[a-z]/ { needs[$1] = $2 }
+        /^[a-z]/ { split($1, word, " "); needs[word[1]] = $2 }
         END { visit(name); print total + 0 }' crates.txt
 }
 
-# Proves and builds NAME and what it needs, where that has not been done, and says on standard error which crates rt is at: nothing where there
-# is nothing to do, all that rt said where it fails. Four jobs, as in the gate: rt waits for the slowest of each batch.
-prove() { # NAME
-    total=$(needed "$1") since=$(mktemp) failed=
-    [ -e "target/stamp/$1" ] || [ "$total" = 0 ] || echo "$(basename "$0"): proving $1, $total crates in all: minutes, once" >&2
-    tell &
-    teller=$!
-    trap 'rm "$since"; exit 1' HUP INT TERM # now, for a trap set before would swallow the kill of a teller that has just begun
-    said=$(RT_JOBS=${RT_JOBS:-4} rt check "$1" 2>&1 </dev/null) || failed=yes
-    kill $teller 2>/dev/null || :
-    wait $teller 2>/dev/null || :
-    rm "$since"
-    trap - HUP INT TERM
-    [ -z "$failed" ] || {
-        printf '%s\n' "$said" >&2
-        exit 1
-    }
+# Whether a file was built from the crates as they are: none of their files is newer.
+is_built() { # FILE
+    [ -e "$1" ] && [ -z "$(find crates.txt crates -name out -prune -o -type f -newer "$1" -print | head -n 1)" ]
 }
 
-# Says which crates rt has begun and not ended, whenever they are others: rt writes its verdict on a crate last into the crate's log.
-tell() {
+# Proves and builds a crate, where that has not been done, and says on standard error which crates rt is at: nothing where there is nothing to do, all
+# that rt said where it fails. The file is what is built, and COMMAND is rt's: run, which also runs a program, here on no input, or lib.
+prove() { # NAME FILE COMMAND
+    is_built "$2" && return 0
+    echo "$(basename "$0"): proving $1, $(needed "$1") crates in all: minutes, once" >&2
+    said=$(mktemp) failed=
+    tell "$said" &
+    teller=$!
+    trap 'kill $teller 2>/dev/null; rm "$said"; exit 1' HUP INT TERM
+    (cd "crates/$1" && rt "$3") >"$said" 2>&1 </dev/null || failed=yes
+    kill $teller 2>/dev/null || :
+    wait $teller 2>/dev/null || :
+    trap - HUP INT TERM
+    [ -z "$failed" ] && [ -e "$2" ] || {
+        cat "$said" >&2
+        rm "$said"
+        exit 1
+    }
+    rm "$said"
+    touch "$2" # rt knows by sums that nothing has changed, and leaves it as it was
+}
+
+# Says which crate rt is at, whenever it is another.
+tell() { # LOG
     before=
     while sleep 2 </dev/null >/dev/null 2>&1 && kill -0 $$ 2>/dev/null; do
-        ended=0 now=
-        for log in target/log/*.out; do
-            [ "$log" -nt "$since" ] || continue
-            crate=$(basename "$log" .out)
-            if grep -q "^rt: $crate proved " "$log"; then ended=$((ended + 1)); elif ! grep -q '^rt: ' "$log"; then now="$now $crate"; fi
-        done
-        [ -z "$now" ] || [ "$now" = "$before" ] || echo "$(basename "$0"): $ended of $total crates proved, now$now" >&2
+        now=$(sed -n 's/^checked \([a-z0-9_]*\)::.*/\1/p' "$1" | tail -n 1)
+        [ -z "$now" ] || [ "$now" = "$before" ] || echo "$(basename "$0"): now $now" >&2
         before=$now
     done
 }
 
-# The archives for C, target/staticlib/libexports.a, libname_exports.a and libpanel_exports.a, each made anew where its crate was proved after it.
+# Where a program is, once it is built.
+place_of() { # NAME
+    echo "crates/$1/out/$1"
+}
+
+prove_program() { # NAME
+    prove "$1" "$(place_of "$1")" run
+}
+
+# The archives for C, target/staticlib/libexports.a, libname_exports.a and libpanel_exports.a: each is that of the crate whose functions have the C
+# names, exports_c and so on.
 exported='exports name_exports panel_exports'
 archives() {
+    mkdir -p target/staticlib
     for crate in $exported; do
-        prove $crate
-        [ -e target/stamp/$crate ] && [ target/staticlib/lib$crate.a -nt target/stamp/$crate ] || quietly rt staticlib $crate
+        made=crates/${crate}_c/out/lib${crate}_c.a
+        prove ${crate}_c $made lib
+        cmp -s $made target/staticlib/lib$crate.a || cp $made target/staticlib/lib$crate.a
     done
 }
 
-# Compiles examples/PROGRAM.c with the archives to target/c/PROGRAM; -static: no C library of x86-64 is needed to run it.
+# Compiles examples/PROGRAM.c with the archives to target/c/PROGRAM.
 link_c() { # PROGRAM..
     want $cc $cc_packages
     archives

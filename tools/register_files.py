@@ -1,6 +1,5 @@
 #!/usr/bin/env python3
-"""Runs register_up and register_down on files, and holds what they write to the two layouts as `struct` has them. tools/test-register calls it, with the
-words that run a program for x86-64 here.
+"""Runs register_up and register_down on files, and holds what they write to the two layouts as `struct` has them. tools/test-register calls it.
 
 Files of 0, 1, 2 and 1,000 records, and around the ends of a batch; a refused record first, in the middle and last; three records cut at every length; each
 byte of a record changed, and two at once; files that arrive in pieces and files made at random; a million records up and down again, with a refused one
@@ -27,7 +26,6 @@ ROOT = os.path.dirname(os.path.dirname(os.path.abspath(__file__)))
 SHORT = struct.Struct("<I4s128s")
 LONG = struct.Struct("<IB3s128s128s")
 BATCH = 248  # records that the programs take at a time: files end around it
-EMULATED = "qemu" in sys.argv[1]
 dice = random.Random(9)
 held = 0
 
@@ -65,7 +63,7 @@ def expected(program, file):
 
 
 def command(program):
-    return sys.argv[1:] + [os.path.join(ROOT, "target/bin", program)]
+    return [os.path.join(ROOT, "crates", program, "out", program)]
 
 
 def same(what, got, wanted):
@@ -191,7 +189,7 @@ def a_million(folder):
             made.write(b"".join(records("register_up", 1000)))
         size = made.tell()
         made.write(record("register_up", 1))
-    little = None if EMULATED else lambda: resource.setrlimit(resource.RLIMIT_AS, (32 << 20, 32 << 20))
+    little = lambda: resource.setrlimit(resource.RLIMIT_AS, (32 << 20, 32 << 20))
     with open(name, "rb") as stdin:
         pipes = {"stdout": subprocess.PIPE, "stderr": subprocess.PIPE, "preexec_fn": little}
         first = subprocess.Popen(command("register_up"), stdin=stdin, **pipes)
