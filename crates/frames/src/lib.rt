@@ -1,9 +1,11 @@
 // What the programs share: of a buffer, the part that is filled; bytes and frames read; an answer to all of the input, and to each of its frames.
 #![tactic(auto)]
 
-ghost use Rattle.std.specs.Prelude.{◌≡◌, ◌<◌, length, take, IfOk};
+ghost use Rattle.std.specs.Prelude.{◌≡◌, ◌<◌, length, take, IfOk, OnOk, IfSome};
 ghost use Rattle.std.specs.Io.{ReadsAtMost};
 ghost use Rattle.std.specs.Io.KnownBytes.{Consumes, IsAtEnd};
+ghost use Rattle.frames.specs.Frame.{ReadsFrame, length_told};
+ghost use Rattle.frames.specs.Answer.{Writes};
 
 use std::io;
 use std::io::{Eprint, Read, Write};
@@ -46,7 +48,9 @@ pub fn fill<R: Read>(input: &mut R, space: &mut [u8]) -> io::Result<usize>
 }
 
 // Reads a frame: its length in 16 bits, low byte first, then as many bytes, to the start of the space.
-pub fn read_frame<R: Read>(input: &mut R, space: &mut [u8]) -> io::Result<Came> {
+pub fn read_frame<R: Read>(input: &mut R, space: &mut [u8]) -> io::Result<Came>
+    ensures { IfOk result (ReadsFrame (R.remaining input.old) (R.remaining input.new) space.new) }
+{
     let mut head = [0u8; 2];
     let got = fill(input, &mut head)?;
     if got == 0 {
@@ -55,7 +59,7 @@ pub fn read_frame<R: Read>(input: &mut R, space: &mut [u8]) -> io::Result<Came> 
     if got < 2 {
         return Ok(Came::Part);
     }
-    let n = u16::from_le_bytes(head) as usize;
+    let n = length_told(&head);
     if n > space.len() {
         return Ok(Came::TooLong);
     }
@@ -65,6 +69,13 @@ pub fn read_frame<R: Read>(input: &mut R, space: &mut [u8]) -> io::Result<Came> 
     Ok(Came::All(n))
 }
 
+// The length that the first two bytes of a frame tell.
+fn length_told(head: &[u8; 2]) -> usize
+    ensures { result ≡ length_told head.now }
+{
+    head[0] as usize + 256 * head[1] as usize
+}
+
 // Writes what `answer` says of the first 4,096 bytes of the input.
 pub fn answer_input<R: Read, W: Write, F: FnOnce(&mut [u8; 4096], &[u8]) -> usize>(
     input: &mut R,
@@ -72,6 +83,7 @@ pub fn answer_input<R: Read, W: Write, F: FnOnce(&mut [u8; 4096], &[u8]) -> usiz
     answer: F,
 ) -> io::Result<()>
     requires { F.IsAlwaysCallable answer }
+    ensures { OnOk result (IfSome (R.remaining input.old) (λ xs. Writes (F.post answer) (take 4096 xs) (W.contents output.old) (W.contents output.new))) }
 {
     let mut buffer = [0u8; 4096];
     let n = fill(input, &mut buffer)?;
@@ -108,6 +120,7 @@ fn answer_frame<W: Write, F: Fn(&mut [u8; 4096], &[u8]) -> usize>(
     frame: &[u8],
 ) -> io::Result<()>
     requires { F.IsAlwaysCallable answer.now }
+    ensures { OnOk result (Writes (F.post answer.now) frame.now (W.contents output.old) (W.contents output.new)) }
 {
     let mut out = [0u8; 4096];
     let end = answer(&mut out, frame);

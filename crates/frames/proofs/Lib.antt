@@ -1,0 +1,2 @@
+-- What several proofs of `frames` cite.
+pub mod Known
