@@ -1,2 +1,3 @@
 -- What several proofs of `frames` cite.
 pub mod Known
+pub mod Run

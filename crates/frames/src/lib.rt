@@ -6,6 +6,7 @@ ghost use Rattle.std.specs.Io.{ReadsAtMost};
 ghost use Rattle.std.specs.Io.KnownBytes.{Consumes, IsAtEnd};
 ghost use Rattle.frames.specs.Frame.{ReadsFrame, length_told};
 ghost use Rattle.frames.specs.Answer.{Writes};
+ghost use Rattle.frames.specs.Run.{AnswersAll};
 
 use std::io;
 use std::io::{Eprint, Read, Write};
@@ -101,6 +102,7 @@ pub fn answer_frames<R: Read, W: Write, E: Eprint, F: Fn(&mut [u8; 4096], &[u8])
     answer: F,
 ) -> io::Result<()>
     requires { F.IsAlwaysCallable answer }
+    ensures { OnOk result (AnswersAll (F.post answer) (R.remaining input.old) (R.remaining input.new) (W.contents output.old) (W.contents output.new)) }
 {
     let mut space = [0u8; 4096];
     for number in 0..MOST {

@@ -15,8 +15,7 @@ cut a b d (x ∷ y ∷ z ∷ zs) body got k n two g e less fits first rest end =
 cut a b d (x ∷ y ∷ []) body got k n two g e less fits first rest end =
     let head = x ∷ y ∷ [] in
     let whole : take got head ≡ head = take_all got head g in
-    let size : length (take k body) ≡ k = length-take-le k body fits in
-    (
+    let size : length (take k body) ≡ k = length-take-le k body fits in (
       head ++ take k body,
       omega arith,
       (λ h. omega arith),
