@@ -1,6 +1,6 @@
 -- What the proofs of `panel_forms` use: forms and words one after the other.
-use Rattle.std.specs.Prelude.{ℕ, suc, ◌+◌, ◌-◌, ◌<◌, ◌≤◌, Bool, true, false, cond, ◌&&◌, ◌||◌, List, [], ◌∷◌, ◌≡◌, refl, leb, length, get_or, drop}
-use Rattle.std.proofs.Common.{sym, ap, ◌∙◌, add-one, arith, le-leb, leb-true, leb-false, ne_eqb, drop_of_length-le, drop-cons}
+use Rattle.std.specs.Prelude.{ℕ, suc, ◌+◌, ◌<◌, ◌≤◌, Bool, true, false, cond, ◌&&◌, List, [], ◌∷◌, ◌≡◌, refl, leb, length, get_or, drop}
+use Rattle.std.proofs.Common.{ap, add-one, arith, le-leb, leb-true, leb-false, ne_eqb, drop_of_length-le, drop-cons}
 use Rattle.std.proofs.lemmas.Bool.{lt-leb}
 use Rattle.std.proofs.Math.ListN.{get_or-eq_default}
 use Rattle.text_words.specs.Words.{words, onto}

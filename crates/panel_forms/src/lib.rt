@@ -1,4 +1,6 @@
 // The forms of the lines of a panel's text.
+#![tactic(auto)]
+
 ghost use Rattle.std.specs.Prelude.{◌≡◌};
 ghost use Rattle.text_words.specs.Words.{words};
 ghost use Rattle.text_lines.specs.Lines.{lines, counted};

@@ -1,0 +1,25 @@
+-- `panel_forms::bytes_behind` meets its contract. The invariant: the words passed are numbers. Assumes nothing.
+use Prim.Native.Nat.{suc, ◌+◌}
+use mathlib.Core.Bool.{true, false}
+use mathlib.Core.Path.{refl, sym, ◌∙◌}
+use native.Mathlib.Omega.{arith}
+use lib.ListN.{length}
+use borrow.Author.Tests.{leb-true}
+use Rattle.text_words.specs.Words.{words}
+use Rattle.text_words.specs.Scan.{words_some}
+use Rattle.panel_forms.specs.Laws.{bytes_over, behind_is, behind_long}
+use Rattle.panel_forms.proofs.bytes_behind.Goals as goal
+
+pub loop-k-init : goal.loop-k-init
+loop-k-init c = (omega arith, words_some false c.args.l.now, refl)
+
+pub returns-then-last_word : goal.returns-then-last_word
+returns-then-last_word c =
+    let w = words c.args.l.now in
+    let last = leb-true (length w) (suc c.loop-k.k) (sym c.last_word.ensures ∙ c.if-last_word.true) in
+    let i = c.loop-k.invariant in
+    sym (behind_is w true (omega (arith, i.1)) (omega (arith, last)) (i.2 ∙ bytes_over w (c.loop-k.k + 1) (omega (arith, last))))
+
+pub returns : goal.returns
+returns c =
+    sym (behind_long (words c.args.l.now) (omega (arith, c.loop-k.invariant.1)))
