@@ -1,4 +1,6 @@
 // The four slots: the first holds a timing, and each of the three later ones starts where the one before stopped.
+#![tactic(auto)]
+
 ghost use Rattle.std.specs.Prelude.{◌≡◌};
 ghost use Rattle.steps.specs.Steps.{run, map};
 ghost use Rattle.steps.specs.Leaves.{Beside};
