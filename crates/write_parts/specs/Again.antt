@@ -1,9 +1,8 @@
 -- Laws: a pair, a white point or a text that any bytes are read as, is read from its own bytes.
-use Rattle.std.specs.Prelude.{ℕ, zero, suc, ◌<◌, ◌≡◌, List, [], ◌∷◌, replicate}
+use Rattle.std.specs.Prelude.{ℕ, zero, suc, ◌<◌, List, [], ◌∷◌, replicate}
 use Rattle.std.proofs.Common.{arith}
 use Rattle.standard_record.specs.declared.StandardTiming.{StandardTiming}
 use Rattle.standard_record.specs.declared.Gamma.{Gamma}
-use Rattle.standard_record.specs.declared.Gamma.TheVariants as Gamma
 use Rattle.standard_record.specs.declared.WhitePoint.{WhitePoint}
 use Rattle.standard_parts.specs.Text.{text_length}
 use Rattle.standard_parts.specs.declared.Structure.{Structure}

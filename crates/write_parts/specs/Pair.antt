@@ -6,7 +6,6 @@ use Rattle.standard_record.specs.declared.StandardTiming.{StandardTiming}
 use Rattle.standard_parts.specs.Timings.{pair_of}
 use Rattle.standard_parts.specs.declared.Structure.{Structure}
 use Rattle.standard_parts.specs.declared.Pair.{Pair}
-use Rattle.standard_parts.specs.declared.Pair.TheVariants as Pair
 use Rattle.write_leaf.specs.Bytes.{digit}
 use Rattle.write_leaf.specs.Leaf.{Writes, Two, BothBytes}
 

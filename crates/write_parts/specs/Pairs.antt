@@ -7,7 +7,6 @@ use Rattle.standard_parts.specs.Timings.{ratio_of, pair_of}
 use Rattle.standard_parts.specs.declared.Structure.{Structure}
 use Rattle.standard_parts.specs.declared.Structure.TheVariants.{Below3, From3, From4}
 use Rattle.standard_parts.specs.declared.Pair.{Pair}
-use Rattle.standard_parts.specs.declared.Pair.TheVariants as Pair
 use Rattle.write_leaf.specs.Digits.{four_hold, agrees}
 use Rattle.write_parts.specs.Pair.{ratio_code, pair_low, pair_high, WritesPair, same_timing, same_pair}
 

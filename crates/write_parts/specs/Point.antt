@@ -2,7 +2,6 @@
 use Rattle.std.specs.Prelude.{ℕ, ◌+◌, ◌*◌, ◌/◌, ◌%◌, ◌≡◌, Bool, true, List, [], ◌∷◌, eqb, leb}
 use Rattle.standard_record.specs.declared.WhitePoint.{WhitePoint}
 use Rattle.standard_record.specs.declared.Gamma.{Gamma}
-use Rattle.standard_record.specs.declared.Gamma.TheVariants as Gamma
 use Rattle.standard_parts.specs.Head.{gamma_of}
 use Rattle.standard_parts.specs.Color.{point_of}
 use Rattle.standard_parts.specs.declared.Point.TheVariants as Point

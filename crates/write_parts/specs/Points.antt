@@ -6,7 +6,6 @@ use borrow.Author.Tests.{eqb-false, ne_eqb, le-leb, leb-true}
 use Rattle.bits.specs.Fields.{digits}
 use Rattle.standard_record.specs.declared.WhitePoint.{WhitePoint}
 use Rattle.standard_record.specs.declared.Gamma.{Gamma}
-use Rattle.standard_record.specs.declared.Gamma.TheVariants as Gamma
 use Rattle.standard_parts.specs.Head.{gamma_of}
 use Rattle.standard_parts.specs.Color.{chromaticity_of, point_of}
 use Rattle.standard_parts.specs.declared.Point.TheVariants as Point

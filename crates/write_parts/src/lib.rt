@@ -1,4 +1,6 @@
 // The bytes of the parts of a slot: a pair, a white point with its gamma, a text.
+#![tactic(auto)]
+
 ghost use Rattle.std.specs.Prelude.{◌≡◌, ◌≤◌};
 ghost use Rattle.write_parts.specs.Pair.{ratio_code, same_timing, same_pair, WritesPair};
 ghost use Rattle.write_parts.specs.Point.{WritesGamma, WritesPoint};
