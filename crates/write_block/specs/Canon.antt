@@ -20,7 +20,7 @@ use Rattle.write_leaf.specs.Bytes.{Bytes}
 use Rattle.write_leaf.specs.Leaf.{Again}
 use Rattle.write_leaf.specs.Again.{each_byte, each_before, append_bytes}
 use Rattle.write_timing.specs.Timing.{timing_bytes}
-use Rattle.write_timing.specs.Again.{timing_again}
+use Rattle.write_timing.proofs.Again.{timing_again}
 use Rattle.write_pairs.specs.Run.{run, run_at_most}
 use Rattle.write_pairs.specs.Pairs.{pairs_bytes, All, ReadFrom}
 use Rattle.write_pairs.specs.Laws.{all_read}

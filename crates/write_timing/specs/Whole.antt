@@ -35,13 +35,6 @@ tested : (z e : Bool) → cond z false e ≡ true → (z ≡ false) × (e ≡ tr
 tested true e h = (cc, cc)
 tested false e h = (refl, h)
 
-if_passed : (d : DetailedTiming) → fits_timing d ≡ true → Fits d
-if_passed d h =
-    let p = tested (eqb d.clock 0) (eqb (excess d) 0) h in
-    let nonzero = eqb-false d.clock 0 p.0 in
-    let none = eqb-true (excess d) 0 p.1 in
-    omega arith
-
 passed_if : (d : DetailedTiming) → Fits d → fits_timing d ≡ true
 passed_if d f = rw (ne_eqb d.clock 0 (omega arith)) (eq-eqb (excess d) 0 (omega arith))
 
@@ -103,3 +96,10 @@ writes_timing d = record {
   sound = λ e. sound d (if_passed d e);
   complete = λ t b r. passed_if d (complete d t b r);
 }
+  where
+    if_passed : (d : DetailedTiming) → fits_timing d ≡ true → Fits d
+    if_passed d h =
+        let p = tested (eqb d.clock 0) (eqb (excess d) 0) h in
+        let nonzero = eqb-false d.clock 0 p.0 in
+        let none = eqb-true (excess d) 0 p.1 in
+        omega arith
