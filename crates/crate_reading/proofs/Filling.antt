@@ -1,6 +1,6 @@
 -- The reading as the code goes through it, which fills its arrays part by part, and that this comes to the reading. Assumes nothing.
 use mathlib.Core.Path.{◌≡◌, sym, ◌∙◌}
-use Rattle.steps.specs.Steps.{Steps, done, ◌>>=◌, ◌>>◌, map}
+use Rattle.steps.specs.Steps.{Steps, done, ◌>>=◌, map}
 use Rattle.steps.specs.Leaves.{byte}
 use Rattle.steps.specs.Laws.{then_then, then_same}
 use Rattle.shared_record.specs.Established.{established_timings}

@@ -1,6 +1,6 @@
 -- The whole of the crate reading, as `EDID::parse` of the source has it: part after part, then one extension count.
 use Rattle.std.specs.Prelude.{ℕ, List, ◌++◌}
-use Rattle.steps.specs.Steps.{Steps, done, ◌>>=◌, ◌>>◌, map, Outcome, run}
+use Rattle.steps.specs.Steps.{Steps, done, ◌>>=◌, map, Outcome, run}
 use Rattle.steps.specs.Leaves.{byte}
 use Rattle.crate_record.specs.Seen.{Seen, holding}
 use Rattle.crate_record.specs.declared.EDID.{EDID}

@@ -1,4 +1,6 @@
 // The crate reading: all of `parse` of the source, over a lent slice.
+#![tactic(auto)]
+
 ghost use Rattle.std.specs.Prelude.{◌≡◌};
 ghost use Rattle.steps.specs.Leaves.{Beside};
 ghost use Rattle.crate_record.specs.Filler.{blank};
