@@ -1,5 +1,5 @@
 -- Worked cases of the definition, as entries of one list under one claim. antt computes each.
-use Rattle.std.specs.Prelude.{ℕ, zero, suc, ◌+◌, false, ◌≡◌, refl, length, take, replicate, set}
+use Rattle.std.specs.Prelude.{ℕ, zero, suc, ◌+◌, false, ◌≡◌, refl, take, replicate, set}
 use mathlib.Core.List.{List, [], ◌∷◌, ◌++◌, flat_map}
 use Rattle.sums.specs.Joined.{checksum}
 use Rattle.timing.specs.Axis.{pixels, lines, back_porch, across_of, down_of}

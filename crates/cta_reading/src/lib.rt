@@ -1,5 +1,7 @@
 // The reading of a CTA-861 extension: judged in the order of the refusals, 7, 8, 12 and 13, then data block after data block, 13, then timing
 // after timing, 6; each of them is looked at once.
+#![tactic(auto)]
+
 ghost use Rattle.std.specs.Prelude.{◌+◌, ◌≤◌, ◌≡◌, List, ◌++◌, length};
 ghost use Rattle.fixed.specs.Gather.{Holds};
 ghost use Rattle.cta_record.specs.Filler.{blank};
