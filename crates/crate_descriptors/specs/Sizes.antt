@@ -13,7 +13,7 @@ use Rattle.crate_descriptors.specs.declared.Points.{Points}
 use Rattle.crate_descriptors.specs.declared.Points.TheVariants.{One, Two}
 use Rattle.crate_descriptors.specs.declared.Slot.{Slot}
 use Rattle.crate_descriptors.specs.declared.Slot.TheVariants.{Nothing, Described, White, Six}
-use Rattle.crate_descriptors.specs.Descriptors.{spaces, closing, point, ended, second, points, white, gtf, none, other, secondary, range, string, raw, by_tag, tagged, descriptor}
+use Rattle.crate_descriptors.specs.Descriptors.{spaces, closing, point, ended, second, points, white, gtf, none, other, secondary, range, string, raw, by_tag, tagged}
 
 -- 1 for true
 abbrev pub one : Bool → ℕ
@@ -155,17 +155,12 @@ tagged_other tag t false false false true ff = tagged_string tag t
 tagged_other tag t false false false false true = tagged_string tag t
 tagged_other tag t false false false false false = tagged_raw tag t
 
-tagged_by : (tag : ℕ) (ten fb : Bool) → eqb tag 0x10 ≡ ten → eqb tag 0xfb ≡ fb → Ends (Tagged tag) (tagged tag)
-unfolding tagged tag_of
-tagged_by tag true fb e f = subst (λ (k : ℕ). Ends (Tagged k) (tagged k)) (sym (eqb-true tag 0x10 e)) ((refl, refl), omega arith)
-tagged_by tag false true e f = subst (λ (k : ℕ). Ends (Tagged k) (tagged k)) (sym (eqb-true tag 0xfb f)) (tagged_white 0xfb (refl, refl))
-tagged_by tag false false e f =
-    rw (e, f) (tagged_other tag (sym e, sym f) (eqb tag 0xfa) (eqb tag 0xfc) (eqb tag 0xfd) (eqb tag 0xfe) (eqb tag 0xff))
-
 pub ends_tagged : (tag : ℕ) → Ends (Tagged tag) (tagged tag)
+unfolding tagged tag_of
 ends_tagged tag = tagged_by tag (eqb tag 0x10) (eqb tag 0xfb) refl refl
-
-pub exact_descriptor : Ends (λ x m. m + left x ≡ size x) descriptor
-unfolding descriptor byte
-exact_descriptor =
-    λ tag _. ends_map (tagged tag) (Tagged tag) (λ x m. suc (suc m) + left x ≡ size x) (λ x m e. omega (arith, e.1)) (ends_tagged tag)
+  where
+    tagged_by : (tag : ℕ) (ten fb : Bool) → eqb tag 0x10 ≡ ten → eqb tag 0xfb ≡ fb → Ends (Tagged tag) (tagged tag)
+    tagged_by tag true fb e f = subst (λ (k : ℕ). Ends (Tagged k) (tagged k)) (sym (eqb-true tag 0x10 e)) ((refl, refl), omega arith)
+    tagged_by tag false true e f = subst (λ (k : ℕ). Ends (Tagged k) (tagged k)) (sym (eqb-true tag 0xfb f)) (tagged_white 0xfb (refl, refl))
+    tagged_by tag false false e f =
+        rw (e, f) (tagged_other tag (sym e, sym f) (eqb tag 0xfa) (eqb tag 0xfc) (eqb tag 0xfd) (eqb tag 0xfe) (eqb tag 0xff))

@@ -11,7 +11,8 @@ use Rattle.crate_detailed.specs.Sizes.{slot_bytes, ends_detailed}
 use Rattle.crate_detailed.specs.declared.MaybeTiming.{MaybeTiming}
 use Rattle.crate_detailed.specs.declared.MaybeTiming.TheVariants as Maybe
 use Rattle.crate_descriptors.specs.Descriptors.{closing, tagged, descriptor}
-use Rattle.crate_descriptors.specs.Sizes.{one, takes_closing, longer, left, size, is_nothing, is_white, Says, Tagged, ends_tagged, exact_descriptor}
+use Rattle.crate_descriptors.specs.Sizes.{one, takes_closing, longer, left, size, is_nothing, is_white, Says, Tagged, ends_tagged}
+use Rattle.crate_descriptors.proofs.Sizes.{exact_descriptor}
 use Rattle.crate_descriptors.specs.declared.Points.TheVariants.{One, Two}
 use Rattle.crate_descriptors.specs.declared.Slot.{Slot}
 use Rattle.crate_descriptors.specs.declared.Slot.TheVariants.{Nothing, Described, White, Six}
