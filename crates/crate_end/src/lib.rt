@@ -1,4 +1,6 @@
 // How the crate reading ends, without its record: header and slots decide it, so all else is passed over. It can go on from any piece.
+#![tactic(auto)]
+
 ghost use Rattle.std.specs.Prelude.{suc, ◌-◌, ◌≡◌};
 ghost use Rattle.steps.specs.Steps.{run};
 ghost use Rattle.steps.specs.Leaves.{ended};

@@ -11,7 +11,6 @@ use Rattle.crate_record.specs.declared.VideoInput.TheVariants.{Analog, Digital}
 use Rattle.crate_record.specs.declared.MaxSize.{MaxSize}
 use Rattle.crate_record.specs.declared.MaxSize.TheVariants as Size
 use Rattle.crate_record.specs.declared.Gamma.{Gamma}
-use Rattle.crate_record.specs.declared.Gamma.TheVariants as Gamma
 use Rattle.crate_record.specs.declared.DisplayType.{DisplayType}
 use Rattle.crate_record.specs.declared.DisplayType.TheVariants.{Monochrome, RGBColor, OtherColor, Undefined}
 use Rattle.crate_record.specs.declared.DPMSFeatures.{DPMSFeatures}

@@ -15,7 +15,6 @@ use Rattle.crate_record.specs.declared.VideoInput.TheVariants.{Analog, Digital}
 use Rattle.crate_record.specs.declared.MaxSize.{MaxSize}
 use Rattle.crate_record.specs.declared.MaxSize.TheVariants as Size
 use Rattle.crate_record.specs.declared.Gamma.{Gamma}
-use Rattle.crate_record.specs.declared.Gamma.TheVariants as Gamma
 use Rattle.crate_record.specs.declared.DPMSFeatures.{DPMSFeatures}
 use Rattle.crate_record.specs.declared.DisplayParameters.{DisplayParameters}
 use Rattle.crate_record.specs.declared.Chromaticities.{Chromaticities}

@@ -1,4 +1,6 @@
 // The listing of the crate reading, written to a page that the caller lends.
+#![tactic(auto)]
+
 ghost use Rattle.std.specs.Prelude.{◌≡◌, take, drop};
 ghost use Rattle.page.specs.Page.{page, ◌▷◌};
 ghost use Rattle.crate_lines.specs.Lines as lines;

@@ -1,0 +1,9 @@
+-- `crate_lines::listing` meets its contract: a listing is shorter than a page. Assumes nothing.
+use Rattle.crate_lines.specs.Lines.{listing_of}
+use Rattle.crate_lines.specs.Short.{printed}
+use Rattle.crate_lines.proofs.listing.Goals as goal
+
+pub returns : goal.returns
+unfolding listing_of
+returns c =
+    printed _ c.args.t _ _ _ c.size.ensures.1 c.ended_lines.ensures

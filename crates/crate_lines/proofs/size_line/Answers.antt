@@ -1,0 +1,14 @@
+-- `crate_lines::size_line` meets its contract. Assumes nothing.
+use Rattle.page.specs.Laws.{◌so◌, done, line}
+use Rattle.crate_lines.specs.Lines.{size_line}
+use Rattle.crate_lines.proofs.size_line.Goals as goal
+
+pub returns-in-None : goal.returns-in-None
+unfolding size_line
+returns-in-None c = rw c.in-None.is c.bytes.ensures
+
+pub returns-in-Some : goal.returns-in-Some
+unfolding size_line
+returns-in-Some c =
+    rw c.in-Some.is
+    (line (c.bytes-n.ensures so c.float-n.ensures so c.float-n-in-Some.ensures so c.newline.ensures so done))
