@@ -10,7 +10,6 @@ use Rattle.timing.specs.declared.DownRead.{DownRead}
 use Rattle.timing.specs.declared.DownRead.TheVariants as Down
 use Rattle.tags.specs.Tags.{tag_of}
 use Rattle.tags.specs.declared.Tag.{Tag}
-use Rattle.tags.specs.declared.Tag.TheVariants as Tag
 use Rattle.crate_record.specs.declared.WhitePoint.{WhitePoint}
 use Rattle.crate_head.specs.Head.{header}
 use Rattle.crate_text.specs.Text.{scan, padding, skip, span, text}
