@@ -1,4 +1,6 @@
 // The head of a block, by fixed offsets: product, display and colours. Past the end of s every byte is 0.
+#![tactic(auto)]
+
 ghost use Rattle.std.specs.Prelude.{◌≡◌};
 ghost use Rattle.standard_head.specs.Head.{product_in, display_in, chromaticity_at, colors_in};
 
