@@ -1,5 +1,7 @@
 // What one slot of a block says: it is judged and read by the same look, but for the pairs of an fa slot, which are read where they are
 // listed. Past the end of t every byte is 0.
+#![tactic(auto)]
+
 ghost use Rattle.std.specs.Prelude.{◌≡◌, List};
 ghost use Rattle.standard_record.specs.declared.StandardTiming.{StandardTiming};
 ghost use Rattle.standard_slots.specs.Said.{unless, pairs_in, point_at, points_in, text_in, padding_refusal, limits_in, range_in, raw_of, by_tag, said};
