@@ -1,4 +1,6 @@
 // The standard reading of a block: judged in the order of the refusals, 7, 2, 8, 9, then slot after slot; each slot is looked at once.
+#![tactic(auto)]
+
 ghost use Rattle.std.specs.Prelude.{◌≡◌, length};
 ghost use Rattle.standard_record.specs.Filler.{blank};
 ghost use Rattle.standard_verdict.specs.Verdict.{before_slots};

@@ -1,0 +1,15 @@
+-- `standard_reading::read_standard` meets its contract: each arm by what is judged before the slots. Assumes nothing.
+use mathlib.Core.Path.{sym, ◌∙◌}
+use Rattle.standard_verdict.specs.Laws.{has_128}
+use Rattle.standard_reading.specs.Slots.{judged}
+use Rattle.standard_reading.specs.Block.{standard_of}
+use Rattle.standard_reading.proofs.Laws.{stays}
+use Rattle.standard_reading.proofs.read_standard.Goals as goal
+
+pub read_slots-requires : goal.read_slots-requires
+read_slots-requires c = let e = sym c.before_slots.ensures ∙ c.in-Accepted.is in (has_128 _ e, e)
+
+pub returns-in-Refused : goal.returns-in-Refused
+unfolding standard_of judged
+returns-in-Refused c =
+    rw (c.refuse.ensures, stays _ _ 0 (sym c.before_slots.ensures ∙ c.in-Refused.is) 4)
