@@ -1,4 +1,6 @@
 // Which of a record's detailed timings to show: the best that the board can drive, and whether a proposed index is that one's.
+#![tactic(auto)]
+
 ghost use Rattle.std.specs.Prelude.{◌≡◌};
 ghost use Rattle.picking.specs.Best.{listed, Chooses, Accepts};
 ghost use Rattle.picking.specs.Score.{score_of};
