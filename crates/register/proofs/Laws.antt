@@ -1,13 +1,13 @@
 -- The steps as the code takes them: a long record with no extension is the short one and 128 zero bytes. Assumes nothing.
-use Prim.Native.Nat.{ℕ, ◌≤◌, ◌<◌}
+use Prim.Native.Nat.{ℕ, ◌≤◌, ◌<◌, ◌-◌}
 use mathlib.Core.Path.{◌≡◌, refl, sym, ap, ◌∙◌}
 use mathlib.Core.Bool.{true, false}
-use mathlib.Core.List.{List, ◌++◌, append-nil}
+use mathlib.Core.List.{List, ◌++◌}
 use native.Mathlib.Omega.{arith}
 use borrow.Author.Tests.{ne_eqb, le-leb, lt-leb}
-use borrow.Rule.Slice.PartMut.{mid_of, put_mid}
-use lib.ListN.{length, take, drop, length-drop, drop_of_length-le}
-use lib.Seq.{take_all, take-length, take_at, drop_at, length-take-le}
+use borrow.Rule.Slice.PartMut.{put_mid}
+use lib.ListN.{length, take, drop, length-append, length-drop, drop_of_length-le}
+use lib.Seq.{take_all, take_at, drop_at}
 use Rattle.bits.specs.Bytes.{◌!◌, part}
 use Rattle.write_leaf.specs.Bytes.{Bytes}
 use Rattle.register.specs.Register.{zeros, Step, all_zero, step_up, step_down, into}
@@ -27,12 +27,12 @@ module _ (s o : List ℕ) (n : length o ≡ 264) where
   up_0 b h z = rw (n, h, z) (ap (λ (t : List ℕ). (0, t ++ zeros 128)) (sym (take_all 136 s (omega arith)) ∙ starts_short s b (omega arith) z))
 
 -- what the two copies leave
-pub laid : (s o l m : List ℕ) → length s ≡ 136 → length o ≡ 264 → l ≡ take (length s) s ++ drop (length s) o → m ≡ zeros 128 ++ drop 128 (mid_of 136 128 l)
-    → put_mid 136 128 l m ≡ s ++ zeros 128
-laid s o l m n k el em =
+pub laid : (s o l m : List ℕ) (k : ℕ) → length s ≡ 136 → length o ≡ 264 → l ≡ s → m ≡ zeros 128 → k ≡ length (l ++ drop 136 o) - 136
+    → put_mid 136 k (l ++ drop 136 o) m ≡ s ++ zeros 128
+laid s o l m k n h el em ek =
     let rest = drop 136 o in
-    let size : length rest ≤ 128 = omega (arith, length-drop 136 o) in
-    rw (em, el, take-length s, n, take_at s rest 136 n, drop_at s rest 136 n, take_all 128 rest size, drop_of_length-le rest size) refl
+    let size : length rest ≤ k = omega (arith, ek, ap length el, length-append l (drop 136 o), length-drop 136 o) in
+    rw (el, em, take_at s rest 136 n, drop_at s rest 136 n, drop_of_length-le rest {i = k} size) refl
 
 module _ (s o : List ℕ) (n : length o ≡ 136) where
   pub down_15 : (length s ≡ 264 → ⊥) → (15, o) ≡ into 136 o (step_down s)
@@ -52,7 +52,3 @@ module _ (s o : List ℕ) (n : length o ≡ 136) where
 
   pub down_0 : Bytes s → length s ≡ 264 → s ! 4 ≡ 0 → all_zero (part s 5 3) ≡ true → all_zero (part s 136 128) ≡ true → (0, take 136 s) ≡ into 136 o (step_down s)
   down_0 b h c z x = rw (n, h, c, z, x) (ap (λ (t : List ℕ). (0, t)) (rw c at (start s b (omega arith) z)))
-
-  -- what the copy leaves
-  pub copied : (l : List ℕ) → length s ≡ 264 → l ≡ take (length (take 136 s)) (take 136 s) ++ drop (length (take 136 s)) o → l ≡ take 136 s
-  copied l h e = e ∙ rw (take-length (take 136 s), length-take-le 136 s (omega arith), drop_of_length-le o {i = 136} (omega arith)) (append-nil (take 136 s))

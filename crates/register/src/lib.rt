@@ -1,5 +1,7 @@
 // A record of the panel register from its short form to its long one and back. Blocks are carried as bytes and not judged. A long record without an
 // extension is the short one and 128 zero bytes, so what is carried is carried whole.
+#![tactic(auto)]
+
 ghost use Rattle.std.specs.Prelude.{◌≡◌};
 ghost use Rattle.register.specs.Register.{all_zero, step_up, step_down, into};
 
@@ -29,8 +31,8 @@ pub fn step_up(source: &[u8], output: &mut [u8]) -> u8
     if !all_zero(&source[4..8]) {
         return 17;
     }
-    bytes::copy(source, output);
-    bytes::copy(&[0; 128], &mut output[136..264]);
+    output[..136].copy_from_slice(source);
+    output[136..].copy_from_slice(&[0; 128]);
     0
 }
 
@@ -57,6 +59,6 @@ pub fn step_down(source: &[u8], output: &mut [u8]) -> u8
     if !all_zero(&source[136..264]) {
         return 17;
     }
-    bytes::copy(&source[0..136], output);
+    output.copy_from_slice(&source[..136]);
     0
 }

@@ -1,5 +1,5 @@
 -- `register::all_zero` meets its contract. The invariant: no digit was seen, and all that is left is zero, where the whole is. Assumes nothing.
-use Prim.Native.Nat.{ℕ, zero, suc, ◌+◌, ◌-◌, ◌≤◌, ◌<◌}
+use Prim.Native.Nat.{ℕ, zero, suc, ◌+◌, ◌<◌}
 use mathlib.Core.Path.{◌≡◌, refl, sym, ◌∙◌}
 use mathlib.Core.Bool.{false, ◌&&◌, and-true}
 use mathlib.Core.List.{List}
@@ -12,14 +12,7 @@ use lib.Dec.{eqb}
 use lib.ListN.{length, get_or, drop, drop_of_length-le}
 use lib.Seq.{drop-cons}
 use Rattle.register.specs.Register.{all_zero}
-use Rattle.register.proofs.all_zero.Statement.{statement}
-use Rattle.register.proofs.all_zero.Tie as tie
-
-abbrev invariant_loop : tie.invariant-loop
-invariant_loop s seen₀ i₀ seen i = (i ≤ length s) × (all_zero s ≡ (eqb seen 0 && all_zero (drop i s)))
-
-abbrev decreases_loop : tie.decreases-loop
-decreases_loop s seen₀ i₀ seen i = length s - i
+use Rattle.register.proofs.all_zero.Goals as goal
 
 -- a digit that was seen stays
 or_seen : (n b : ℕ) → eqb (bit_or (suc n) b) 0 ≡ false
@@ -29,17 +22,10 @@ one_more : (s : List ℕ) (seen i : ℕ) → i < length s → (eqb seen 0 && all
 one_more s zero i h = rw (drop-cons s i 0 h, add-one) refl
 one_more s (suc n) i h = rw (or_seen, ne_eqb (suc n) 0 (λ e. absurd (omega arith))) refl
 
-loop_again : tie.Need-loop-preserved invariant_loop decreases_loop
-loop_again c =
-    let l = c.before.before in
-    (search rules, l.loop.invariant.1 ∙ one_more l.before.args.s.now l.loop.seen l.loop.i (search rules))
+pub loop-i-preserved : goal.loop-i-preserved
+loop-i-preserved c =
+    (search rules, c.loop-i.invariant.1 ∙ one_more c.args.s.now c.loop-i.seen c.loop-i.i (search rules))
 
-returns : tie.Need-returns invariant_loop decreases_loop
+pub returns : goal.returns
 returns c =
-    let l = c.before in
-    sym (rw (drop_of_length-le l.before.args.s.now {i = l.loop.i} (search rules), and-true) at l.loop.invariant.1)
-
-pub all_zero_spec : {M : Type 1} → statement M
-all_zero_spec =
-    tie.close
-    (tie.spec invariant_loop decreases_loop (search rules) (search rules) (search rules) (search rules) loop_again returns)
+    sym (rw (drop_of_length-le c.args.s.now {i = c.loop-i.i} (search rules), and-true) at c.loop-i.invariant.1)
