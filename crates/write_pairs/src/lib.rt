@@ -1,4 +1,6 @@
 // The bytes of a run of pairs: those of a record's list that carry one number, packed to the front, then 01 01.
+#![tactic(auto)]
+
 ghost use Rattle.std.specs.Prelude.{◌≡◌, ◌≤◌, min, not, eqb};
 ghost use Rattle.write_parts.specs.Pair.{WritesPair};
 ghost use Rattle.write_pairs.specs.Pairs.{most, pairs_ahead, WritesPairs};
