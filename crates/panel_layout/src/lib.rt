@@ -1,4 +1,6 @@
 // Which line of a panel's text stands where.
+#![tactic(auto)]
+
 ghost use Rattle.std.specs.Prelude.{◌≤◌, ◌≡◌};
 ghost use Rattle.text_lines.specs.Lines.{lines, counted};
 ghost use Rattle.panel_layout.specs.Layout.{run, places_of, heads, wrong_at, layout_of};
