@@ -1,4 +1,6 @@
 // The lines of the slots, detailed timings and descriptors, appended to a page.
+#![tactic(auto)]
+
 ghost use Rattle.std.specs.Prelude.{◌≡◌};
 ghost use Rattle.page.specs.Page.{page, ◌▷◌};
 ghost use Rattle.standard_slot_lines.specs.Lines as lines;
