@@ -1,4 +1,6 @@
 // The first 38 bytes of a block: header, product, version, display, colours and the established flags.
+#![tactic(auto)]
+
 ghost use Rattle.std.specs.Prelude.{◌≡◌, length, take, ◌≤◌};
 ghost use Rattle.write_parts.specs.Point.{place_low};
 ghost use Rattle.standard_record.specs.declared.ImageSize.TheVariants as Image;
