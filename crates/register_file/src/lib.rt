@@ -2,7 +2,8 @@
 // the memory is the same for a file of any length.
 #![tactic(auto)]
 
-ghost use Rattle.std.specs.Prelude.{◌<◌, ◌≤◌, min, ◌≡◌, length, take};
+ghost use Rattle.std.specs.Prelude.{◌<◌, ◌≤◌, min, ◌≡◌, false, length, take};
+ghost use Rattle.std.specs.Io.KnownBytes.{Consumes, IsAtEnd};
 ghost use Rattle.register.specs.Register.{into};
 ghost use Rattle.register_file.specs.File.{step_of, from_of, to_of, converted};
 
@@ -109,7 +110,9 @@ fn step_all(way: Way, source: &[u8], output: &mut [u8]) -> Batch
 
 // Reads until the space is full, the input ends or a read fails.
 fn fill<R: Read>(input: &mut R, space: &mut [u8]) -> Filled
-    ensures { (result.count ≤ length space.old) × (length space.new ≡ length space.old) }
+    ensures within { (result.count ≤ length space.old) × (length space.new ≡ length space.old) }
+    ensures bytes { Consumes (R.remaining input.old) (R.remaining input.new) (take result.count space.new) }
+    ensures end { result.failed ≡ false → result.count < length space.old → IsAtEnd (R.remaining input.new) }
 {
     let mut count: usize = 0;
     while count < space.len() {
