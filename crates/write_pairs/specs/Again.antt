@@ -7,7 +7,8 @@ use Rattle.write_leaf.specs.Bytes.{Bytes}
 use Rattle.write_leaf.specs.Leaf.{BothBytes}
 use Rattle.write_leaf.specs.Again.{cons_bytes}
 use Rattle.write_parts.specs.Pair.{pair_low, pair_high}
-use Rattle.write_parts.specs.Again.{pair_are_bytes, pair_again}
+use Rattle.write_parts.specs.Again.{pair_are_bytes}
+use Rattle.write_parts.proofs.Again.{pair_again}
 use Rattle.write_pairs.specs.Pairs.{pairs_bytes, All, ReadFrom, Back}
 
 pub pairs_again : (σ : Structure) (ps : List StandardTiming) → All (ReadFrom σ) ps → All (Back σ) ps

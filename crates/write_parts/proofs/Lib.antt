@@ -1,2 +1,3 @@
 -- The laws that the proofs of `write_parts` cite.
 pub mod Tabs
+pub mod Again

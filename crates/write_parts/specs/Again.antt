@@ -1,18 +1,16 @@
--- Laws: a pair, a white point or a text that any bytes are read as, is read from its own bytes.
+-- Laws: a white point or a text that any bytes are read as, is read from its own bytes; the bytes of a pair are bytes.
 use Rattle.std.specs.Prelude.{ℕ, zero, suc, ◌<◌, List, [], ◌∷◌, replicate}
 use Rattle.std.proofs.Common.{arith}
 use Rattle.standard_record.specs.declared.StandardTiming.{StandardTiming}
 use Rattle.standard_record.specs.declared.Gamma.{Gamma}
 use Rattle.standard_record.specs.declared.WhitePoint.{WhitePoint}
 use Rattle.standard_parts.specs.Text.{text_length}
-use Rattle.standard_parts.specs.declared.Structure.{Structure}
 use Rattle.write_leaf.specs.Bytes.{Bytes}
-use Rattle.write_leaf.specs.Leaf.{Again, Two, BothBytes}
+use Rattle.write_leaf.specs.Leaf.{Again, BothBytes}
 use Rattle.write_leaf.specs.Again.{again, cons_bytes, each_byte, take_bytes}
-use Rattle.write_parts.specs.Pair.{pair_bytes, ReadsPair}
+use Rattle.write_parts.specs.Pair.{pair_bytes}
 use Rattle.write_parts.specs.Point.{gamma_byte, point_bytes, ReadsPoint}
 use Rattle.write_parts.specs.Text.{filled, text_bytes, ReadsText}
-use Rattle.write_parts.specs.Pairs.{writes_pair}
 use Rattle.write_parts.specs.Points.{point_index, point_written}
 use Rattle.write_parts.specs.Texts.{writes_text}
 
@@ -20,9 +18,6 @@ use Rattle.write_parts.specs.Texts.{writes_text}
 
 pub pair_are_bytes : (v : StandardTiming) → BothBytes (pair_bytes v)
 pair_are_bytes v = omega arith
-
-pub pair_again : (σ : Structure) (v : StandardTiming) (s : Two) → BothBytes s → ReadsPair σ s v → Again BothBytes (ReadsPair σ) pair_bytes v
-pair_again σ v s b r = again (writes_pair σ v) s b r (pair_are_bytes v)
 
 -- ---- white points
 

@@ -25,10 +25,6 @@ same_is w v h =
 same_self : (v : StandardTiming) → same_timing v v ≡ true
 same_self v = rw (agrees v.width, agrees v.ratio.width, agrees v.ratio.height, agrees v.rate)
 
-pair_is : (p : Pair) (v : StandardTiming) → same_pair p v ≡ true → p ≡ Pair.Listed v
-pair_is Pair.Skipped v h = cc
-pair_is (Pair.Listed w) v h = ap Pair.Listed (same_is w v h)
-
 -- ---- the bytes
 
 code_back : (σ : Structure) (c : ℕ) → c < 4 → ratio_code (ratio_of σ c) ≡ c
@@ -69,3 +65,7 @@ writes_pair σ v = record {
       let e = bytes_back σ s.0 s.1 b.0 b.1 v h in
       rw (e.0, e.1, h) (same_self v);
 }
+  where
+    pair_is : (p : Pair) (v : StandardTiming) → same_pair p v ≡ true → p ≡ Pair.Listed v
+    pair_is Pair.Skipped v h = cc
+    pair_is (Pair.Listed w) v h = ap Pair.Listed (same_is w v h)
