@@ -20,7 +20,8 @@ use Rattle.cta_record.specs.Seen.{holding}
 use Rattle.cta_record.specs.declared.DataBlock.{DataBlock}
 use Rattle.cta_reading.specs.Along.{Row, none, step}
 use Rattle.cta_reading.specs.Cta.{tag_at, end_at, data_block, block_at, plain, cta_of}
-use Rattle.cta_reading.specs.Promises.{blocks_row, fits, record_is}
+use Rattle.cta_reading.specs.Promises.{record_is}
+use Rattle.cta_reading.proofs.Promises.{blocks_row, fits}
 use Rattle.cta_lines.specs.Lines.{head_line, video_line, run_field, block_line, block_lines, timing_line, timing_lines, record_lines, judged_lines, listing_of}
 
 -- ---- data blocks

@@ -19,7 +19,8 @@ use Rattle.cta_record.specs.declared.DataBlock.{DataBlock}
 use Rattle.cta_reading.specs.Along.{first, Row, none, first_append, row_snoc, all_passed, refused_here}
 use Rattle.cta_reading.specs.Cta.{offset_in, end_at, blocks_in, judge_block, video_at, block_at, is_timing, timings_in, judge_timing, judged, timing_at, before_blocks, plain}
 use Rattle.cta_reading.specs.Lists.{BlocksOf}
-use Rattle.cta_reading.specs.Judged.{BlocksUpTo, start, start_bounds, head_of, below_128, timing_ends, timings_from}
+use Rattle.cta_reading.specs.Judged.{BlocksUpTo, start, start_bounds, timing_ends, timings_from}
+use Rattle.cta_reading.proofs.Judged.{head_of, below_128}
 use Rattle.cta_reading.specs.Room.{Few, few, flat_snoc, flat_at_most, timing_1, spaced}
 
 -- ---- data blocks

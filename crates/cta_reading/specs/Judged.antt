@@ -1,7 +1,7 @@
 -- What an extension has passed whose data blocks and timings are looked at.
 use Rattle.std.specs.Prelude.{ℕ, ◌+◌, ◌≤◌, ◌≡◌, Bool, ◌&&◌, ◌||◌, ◌⊎◌, ltb, leb, length}
 use Rattle.std.proofs.Math.Path.{refl}
-use Rattle.std.proofs.Common.{sym, inl, inr, ⊎_elim, arith}
+use Rattle.std.proofs.Common.{inl, inr, ⊎_elim, arith}
 use Rattle.std.proofs.Math.Bool.{true, false, cond}
 use mathlib.Core.List.{List, []}
 use Rattle.std.proofs.Math.Dec.{eqb}
@@ -11,7 +11,7 @@ use Rattle.sums.specs.Sum.{byte_sum}
 use Rattle.standard_record.specs.declared.Verdict.{Verdict}
 use Rattle.standard_record.specs.declared.Verdict.TheVariants.{Accepted}
 use Rattle.standard_verdict.specs.Verdict.{refused_at, must, ◌then◌}
-use Rattle.cta_reading.specs.Along.{along, Row, clash}
+use Rattle.cta_reading.specs.Along.{along, Row}
 use Rattle.cta_reading.specs.Cta.{offset_in, end_at, is_timing, timings_in, is_offset, before_blocks}
 
 and_first : (a b : Bool) → (a && b) ≡ true → a ≡ true
@@ -70,13 +70,6 @@ module _ (s : List ℕ) where
       go true i true j false k d l = r12 (eqb-true _ _ i) (eqb-true _ _ j) (eqb-false _ _ k)
       go true i true j true k false l = r13 (eqb-true _ _ i) (eqb-true _ _ j) (eqb-true _ _ k) l
       go true i true j true k true l = ok (record { size = eqb-true _ _ i; sum = eqb-true _ _ j; tag = eqb-true _ _ k; offset = l })
-
-  pub head_of : before_blocks s ≡ Accepted → Head s
-  head_of =
-      before_by (λ v. v ≡ Accepted → Head s) (λ a e. clash (sym e)) (λ a b e. clash (sym e)) (λ a b c e. clash (sym e)) (λ a b c d e. clash (sym e)) (λ h e. h)
-
-  pub below_128 : before_blocks s ≡ Accepted → offset_in s ≤ 127
-  below_128 e = offset_below (offset_in s) (head_of e).offset
 
   pub timing_ends : (p : ℕ) → is_timing s p ≡ true → p + 18 ≤ 127
   timing_ends p e = leb-true (p + 18) 127 (and_first _ _ e)

@@ -10,7 +10,7 @@ use Rattle.bits.specs.Bytes.{part}
 use Rattle.fixed.specs.Gather.{took, kept}
 use Rattle.standard_record.specs.declared.Verdict.TheVariants.{Accepted}
 use Rattle.cta_reading.specs.Cta.{tag_at, length_at, video_at, before_blocks, cta_of}
-use Rattle.cta_reading.specs.Judged.{below_128}
+use Rattle.cta_reading.proofs.Judged.{below_128}
 use Rattle.cta_reading.proofs.Laws.{Blocks, no_blocks, block_room, block_past, video_fits, block_more, blocks_are}
 use Rattle.cta_reading.proofs.read_blocks.Goals as goal
 

@@ -1,7 +1,7 @@
 -- `cta_reading::read_cta` meets its contract: each arm by what is judged before the data blocks. Assumes nothing.
 use mathlib.Core.Path.{sym, ◌∙◌}
 use Rattle.cta_reading.specs.Cta.{cta_of}
-use Rattle.cta_reading.specs.Judged.{head_of}
+use Rattle.cta_reading.proofs.Judged.{head_of}
 use Rattle.cta_reading.proofs.read_cta.Goals as goal
 
 pub read_blocks-requires : goal.read_blocks-requires

@@ -7,7 +7,8 @@ use native.Mathlib.Omega.{arith}
 use Rattle.fixed.specs.Gather.{took}
 use Rattle.standard_timing.specs.Timing.{timing_in}
 use Rattle.cta_reading.specs.Cta.{offset_in, is_timing, cta_of}
-use Rattle.cta_reading.specs.Judged.{start_bounds, head_of, timing_ends}
+use Rattle.cta_reading.specs.Judged.{start_bounds, timing_ends}
+use Rattle.cta_reading.proofs.Judged.{head_of}
 use Rattle.cta_reading.proofs.Laws.{no_timings, timing_room, timing_more, timing_over, timings_are}
 use Rattle.cta_reading.proofs.read_timings.Goals as goal
 
