@@ -1,4 +1,6 @@
 // What the lines of a panel's text say, but for those of its slots.
+#![tactic(auto)]
+
 ghost use Rattle.std.specs.Prelude.{◌≡◌};
 ghost use Rattle.panel_front.specs.Front as front;
 
