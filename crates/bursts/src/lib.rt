@@ -1,5 +1,7 @@
 // A reader of a block that arrives in bursts. Its state is 146 bytes that the caller lends, all zero at the start: 142 for the bytes that
 // came, since no answer takes more; how many of them came; and how far the reading of them came, or its end once that is known.
+#![tactic(auto)]
+
 ghost use Rattle.std.specs.Prelude.{◌-◌, ◌<◌, ◌≤◌, min, ◌≡◌, ◌++◌, length, take};
 ghost use Rattle.steps.specs.Leaves.{Beside, ended};
 ghost use Rattle.crate_record.specs.Filler.{blank};
