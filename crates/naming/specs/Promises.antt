@@ -1,7 +1,7 @@
 -- What holds of the answers to every two blocks.
 use Rattle.std.specs.Prelude.{ℕ, ◌+◌, ◌≤◌, ◌≡◌, refl, List, length}
 use Rattle.std.proofs.Common.{sym, ◌∙◌, arith, length-take, length-drop}
-use Rattle.std.specs.Borrow.{Bor, MutBor}
+use Rattle.std.specs.Borrow.{Bor}
 use Rattle.steps.specs.declared.Span.{Span}
 use Rattle.naming.specs.Name.{name_of, shown, shown_of, number_of, place_of, from, IsPart, IsShown}
 use Rattle.naming.specs.Listed.{SoundName, sound_name}
@@ -22,13 +22,13 @@ within p q = go (name_of p) (name_of q) (sound_name p) (sound_name q)
 -- ---- the answers agree
 
 -- the number n, the place k and the part r that the blocks p and q are answered with: whose name it is, where it begins, and the name
-pub data Answered (p q r : MutBor (List ℕ)) : ℕ → ℕ → Type 0 where
+pub data Answered (p q r : Bor (List ℕ)) : ℕ → ℕ → Type 0 where
   panels : (t : Span) → name_of p.now ≡ By t → IsPart p t r → Answered p q r 0 t.start
   references : (t : Span) → name_of p.now ≡ Not → name_of q.now ≡ By t → IsPart q t r → Answered p q r 1 t.start
   neither : name_of p.now ≡ Not → name_of q.now ≡ Not → IsPart p (record { start = 0; len = 0 }) r → Answered p q r 18 0
 
 -- whatever answers the contracts allow
-pub agree : (p q r : MutBor (List ℕ)) (n k : ℕ) → let x = shown_of p.now q.now in
+pub agree : (p q r : Bor (List ℕ)) (n k : ℕ) → let x = shown_of p.now q.now in
     n ≡ number_of x → k ≡ (place_of x).start → IsShown p q x r → Answered p q r n k
 agree p q r n k = go (name_of p.now) (name_of q.now) refl refl
   where

@@ -1,4 +1,6 @@
 // The name to show of a panel: the first fc text of its block, or, where it has none, that of the reference block.
+#![tactic(auto)]
+
 ghost use Rattle.std.specs.Prelude.{◌+◌, ◌≤◌, ◌≡◌, length};
 ghost use Rattle.naming.specs.Name.{name_of, shown_of, number_of, place_of, IsPart, IsShown};
 ghost use Rattle.naming.specs.Slots.{name_as, earlier};
