@@ -17,7 +17,7 @@ use Rattle.standard_parts.specs.Descriptors.{closing_refusal, range_refusal, off
 use Rattle.standard_parts.specs.Text.{text_length, all_spaces}
 use Rattle.standard_parts.specs.TextEnds.{text_ends}
 use Rattle.standard_parts.specs.declared.Structure.{Structure}
-use Rattle.standard_slots.specs.Said.{Said, refusal, pairs, pairs_at, text_in, text_as, padding_refusal, range_in, raw_of, of_timed, by_tag, said}
+use Rattle.standard_slots.specs.Said.{Said, refusal, pairs_at, text_in, text_as, padding_refusal, range_in, raw_of, of_timed, by_tag, said}
 use Rattle.write_slots.specs.Words.{other, Words, serial, text, range, name, undefined, maker_defined, bytes_of, secondary, words, Entries, entries, Shows, refused, these, shows}
 use Rattle.write_slots.specs.Cases.{told}
 

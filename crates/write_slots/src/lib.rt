@@ -1,5 +1,7 @@
 // The 18 bytes of a slot that holds no timing: pairs, white points, or a descriptor, the bytes of whose span are lent. White points are read alike by
 // every structure σ.
+#![tactic(auto)]
+
 ghost use Rattle.std.specs.Prelude.{◌≡◌, ◌||◌, [], ◌∷◌, ◌++◌, eqb, length, take, ◌-◌, ◌≤◌};
 ghost use Rattle.fixed.specs.Fixed.{pad};
 ghost use Rattle.standard_parts.specs.Structure.{since4};

@@ -5,8 +5,7 @@ use mathlib.Core.Bool.{Bool, true, false}
 use native.Mathlib.Omega.{arith}
 use lib.Dec.{leb}
 use borrow.Author.Tests.{le-leb, lt-leb, leb-true, leb-false}
-use Rattle.write_slots.proofs.within.Statement.{statement}
-use Rattle.write_slots.proofs.within.Tie as tie
+use Rattle.write_slots.proofs.within.Goals as goal
 
 within_rest : (a b n : ℕ) → a ≤ n → leb b (n - a) ≡ leb (a + b) n
 within_rest a b n h = go (leb (a + b) n) refl
@@ -15,11 +14,8 @@ within_rest a b n h = go (leb (a + b) n) refl
     go true e = le-leb b (n - a) (omega (arith, leb-true (a + b) n e))
     go false e = lt-leb b (n - a) (omega (arith, leb-false (a + b) n e))
 
-returns : tie.Need-returns
-returns c = within_rest _ _ _ c.before.before.if1.true
+pub returns-then-s-n : goal.returns-then-s-n
+returns-then-s-n c = within_rest _ _ _ c.if-s-n.true
 
-returns_2 : tie.Need-returns-2
-returns_2 c = let a = c.before.before.args in sym (lt-leb (a.s.start + a.s.len) a.n (omega arith))
-
-pub within_spec : {M : Type 1} → statement M
-within_spec = tie.close (tie.spec returns returns_2)
+pub returns-else-s-n : goal.returns-else-s-n
+returns-else-s-n c = let a = c.args in sym (lt-leb (a.s.start + a.s.len) a.n (omega arith))
