@@ -1,4 +1,6 @@
 // The next entry of each list, if it has the number of a slot. It is handed over beside its place and the list's length: no call takes a list.
+#![tactic(auto)]
+
 ghost use Rattle.std.specs.Prelude.{◌≡◌};
 ghost use Rattle.fixed.specs.Gather.{when};
 ghost use Rattle.standard_slots.specs.Said.{of_point};
