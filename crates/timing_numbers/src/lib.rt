@@ -1,4 +1,6 @@
 // A detailed timing as fourteen numbers, written into those that the caller lends: what a C program asks for to drive a panel.
+#![tactic(auto)]
+
 ghost use Rattle.std.specs.Prelude.{◌≡◌};
 ghost use Rattle.timing_numbers.specs.Numbers.{polarity, sync_numbers, numbers_of};
 
