@@ -1,4 +1,6 @@
 // What the lines of the slots say in a panel's text.
+#![tactic(auto)]
+
 ghost use Rattle.std.specs.Prelude.{◌≡◌};
 ghost use Rattle.timing.specs.Axis.{pixels, lines};
 ghost use Rattle.panel_front.specs.Front.{half_at};
