@@ -1,4 +1,6 @@
 // The lists of a panel's record, from the lines of its text.
+#![tactic(auto)]
+
 ghost use Rattle.std.specs.Prelude.{◌≡◌, [], get_or};
 ghost use Rattle.panel_lists.specs.Lists.{between, points_of, pairs_of, timings_of, entries_of, bytes_of, established_of};
 

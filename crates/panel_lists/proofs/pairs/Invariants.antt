@@ -1,0 +1,14 @@
+-- `panel_lists::pairs` meets its contract. The invariant: the pairs passed are in the array. Assumes nothing.
+use Prim.Native.Nat.{◌-◌}
+use mathlib.Core.List.{map}
+use Rattle.standard_record.specs.Filler.{blank_standard}
+use Rattle.panel_entries.specs.Entries.{pair_of}
+use Rattle.panel_lists.specs.Lists.{between}
+use Rattle.panel_lists.specs.Laws.{Filled}
+use Rattle.panel_lists.proofs.pairs.Given as goal
+
+abbrev pub invariant-loop-len : goal.invariant-loop-len
+invariant-loop-len l = Filled 26 blank_standard (map pair_of (between l.s l.from l.to)) l.items l.len
+
+abbrev pub decreases-loop-len : goal.decreases-loop-len
+decreases-loop-len l = 26 - l.len
