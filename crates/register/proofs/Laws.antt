@@ -11,7 +11,7 @@ use lib.Seq.{take_all, take_at, drop_at}
 use Rattle.bits.specs.Bytes.{◌!◌, part}
 use Rattle.write_leaf.specs.Bytes.{Bytes}
 use Rattle.register.specs.Register.{zeros, Step, all_zero, step_up, step_down, into}
-use Rattle.register.specs.Laws.{start, starts_short}
+use Rattle.register.proofs.Layouts.{start, starts_short}
 
 pub wrong_output : (size : ℕ) (o : List ℕ) (step : Step) → (length o ≡ size → ⊥) → (15, o) ≡ into size o step
 wrong_output size o step h = rw (ne_eqb (length o) size h) refl

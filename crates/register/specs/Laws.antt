@@ -1,11 +1,11 @@
--- Laws of the layouts: which bytes they have, and which bytes have them.
-use Rattle.std.specs.Prelude.{ℕ, zero, suc, ◌+◌, ◌*◌, ◌/◌, ◌^◌, ◌≤◌, ◌<◌, ◌≡◌, refl, true, List, [], ◌∷◌, ◌++◌, eqb, length, take, drop}
-use Rattle.std.proofs.Common.{sym, ap, ap₂, ◌∙◌, arith, eqb-true, length-drop, take-add, take_all, drop-cons, length-take-le}
+-- Laws of the layouts' parts: zero bytes, and the panel number. Which bytes have a layout is in proofs/Layouts.
+use Rattle.std.specs.Prelude.{ℕ, zero, suc, ◌+◌, ◌*◌, ◌/◌, ◌^◌, ◌≤◌, ◌<◌, ◌≡◌, refl, true, List, [], ◌∷◌, eqb, length, take, drop}
+use Rattle.std.proofs.Common.{ap, ap₂, ◌∙◌, arith, eqb-true, length-drop, drop-cons, length-take-le}
 use Rattle.bits.specs.Bytes.{◌!◌, part}
 use Rattle.write_leaf.specs.Bytes.{Bytes}
 use Rattle.write_leaf.specs.Digits.{both_hold}
 use Rattle.write_leaf.specs.Again.{take_bytes}
-use Rattle.register.specs.Register.{zeros, little_endian, short, long, number_of, panel_of, base_of, all_zero}
+use Rattle.register.specs.Register.{zeros, little_endian, number_of, panel_of, all_zero}
 
 -- ---- zero bytes
 
@@ -41,33 +41,11 @@ number_under (b ∷ s) h =
 pub panel_under : (s : List ℕ) → Bytes s → 4 ≤ length s → panel_of s < 2 ^ 32
 panel_under s h n = rw (length-take-le 4 s n) at (number_under (take 4 s) (take_bytes 4 s h))
 
-panel_bytes : (s : List ℕ) → Bytes s → 4 ≤ length s → little_endian 4 (panel_of s) ≡ take 4 s
-panel_bytes s h n = rw (length-take-le 4 s n) at (same_bytes (take 4 s) (take_bytes 4 s h))
-
 -- ---- the layouts
 
 -- the byte at 4, then three
-four_are : (s : List ℕ) → 8 ≤ length s → part s 4 4 ≡ s ! 4 ∷ part s 5 3
+pub four_are : (s : List ℕ) → 8 ≤ length s → part s 4 4 ≡ s ! 4 ∷ part s 5 3
 four_are s n = ap (take 4) (drop-cons s 4 0 (omega arith))
 
 pub part_length : (s : List ℕ) (k n : ℕ) → k + n ≤ length s → length (part s k n) ≡ n
 part_length s k n h = length-take-le n (drop k s) (omega (arith, length-drop k s))
-
--- the first 136 bytes of a record of either length, the three bytes zero
-pub start : (s : List ℕ) → Bytes s → 136 ≤ length s → all_zero (part s 5 3) ≡ true
-    → take 136 s ≡ little_endian 4 (panel_of s) ++ (s ! 4 ∷ zeros 3) ++ base_of s
-start s b n z =
-    take-add 8 128 s
-    ∙ ap (λ (t : List ℕ). t ++ base_of s)
-    (take-add 4 4 s
-    ∙ ap₂ ◌++◌ (sym (panel_bytes s b (omega arith)))
-    (four_are s (omega arith) ∙ ap (λ (t : List ℕ). s ! 4 ∷ t) (zeros_by (part s 5 3) 3 (part_length s 5 3 (omega arith)) z)))
-
-pub is_long : (s : List ℕ) → Bytes s → length s ≡ 264 → all_zero (part s 5 3) ≡ true → s ≡ long (panel_of s) (s ! 4) (base_of s) (part s 136 128)
-is_long s b n z = sym (take_all 264 s (omega arith)) ∙ take-add 136 128 s ∙ ap (λ (t : List ℕ). t ++ part s 136 128) (start s b (omega arith) z)
-
--- the layouts agree up to the extension block, where there is no extension
-pub starts_short : (s : List ℕ) → Bytes s → 136 ≤ length s → all_zero (part s 4 4) ≡ true → take 136 s ≡ short (panel_of s) (base_of s)
-starts_short s b n z =
-    let h = both_hold (eqb (s ! 4) 0) (all_zero (part s 5 3)) (ap all_zero (sym (four_are s (omega arith))) ∙ z) in
-    rw (eqb-true (s ! 4) 0 h.0) at (start s b n h.1)

@@ -1,23 +1,15 @@
--- What holds of the steps, over every list of bytes: how each ends and why, and that a step and the step back give the same bytes.
-use Rattle.std.specs.Prelude.{ℕ, zero, suc, ◌+◌, ◌^◌, ◌≤◌, ◌<◌, ◌≡◌, refl, Bool, true, false, ◌&&◌, ◌||◌, List, ◌↔◌, ◌⊎◌, eqb, leb, length, take}
-use Rattle.std.proofs.Common.{sym, ap, subst, ◌∙◌, true≢false, inl, inr, eq-or-lt_of_le, arith, eqb-true, leb-true, leb-false, eq-eqb, ne_eqb, length-append, take_all, take_at, drop_at, drop-cons}
+-- What holds of the steps, over every list of bytes: how each ends and why, and that the number tells. That each reason gives its end and each end has
+-- its reason, and that a step and the step back give the same bytes, is in proofs/Promises.
+use Rattle.std.specs.Prelude.{ℕ, zero, suc, ◌+◌, ◌^◌, ◌≤◌, ◌<◌, ◌≡◌, refl, Bool, true, false, ◌&&◌, ◌||◌, List, ◌⊎◌, eqb, leb, length, take}
+use Rattle.std.proofs.Common.{sym, ap, ◌∙◌, true≢false, inl, inr, eq-or-lt_of_le, arith, eqb-true, eq-eqb, ne_eqb, length-append, drop-cons}
 use Rattle.std.proofs.Math.Bool.{and-false}
-use Rattle.std.proofs.lemmas.Bool.{eqb-false, lt-leb}
+use Rattle.std.proofs.lemmas.Bool.{eqb-false}
 use Rattle.bits.specs.Bytes.{◌!◌, part}
-use Rattle.write_leaf.specs.Bytes.{Bytes}
-use Rattle.register.specs.Register.{zeros, short, long, panel_of, base_of, Step, Refused, Record, must, all_zero, step_up, step_down, written, into}
-use Rattle.register.specs.Laws.{zeros_by, same_number, panel_under, part_length, starts_short, is_long}
+use Rattle.register.specs.Register.{zeros, short, long, Step, Refused, Record, must, all_zero, step_up, step_down, written, into}
 
 -- ---- the layouts, stepped
 
 module _ (panel : ℕ) (base : List ℕ) (p : panel < 2 ^ 32) (b : length base ≡ 128) where
-  pub up_of_short : step_up (short panel base) ≡ Record (long panel 0 base (zeros 128))
-  up_of_short = rw (b, same_number 4 panel p, take_all 128 base (omega arith)) refl
-
-  pub down_of_long : step_down (long panel 0 base (zeros 128)) ≡ Record (short panel base)
-  down_of_long =
-      rw (length-append base (zeros 128), b, drop_at base (zeros 128) 128 b, take_at base (zeros 128) 128 b, same_number 4 panel p) refl
-
   pub down_with_extension : (extension : List ℕ) → length extension ≡ 128 → step_down (long panel 1 base extension) ≡ Refused 16
   down_with_extension extension e = rw (length-append base extension, b, e) refl
 
@@ -27,7 +19,7 @@ module _ (panel : ℕ) (base : List ℕ) (p : panel < 2 ^ 32) (b : length base �
 pub data NotZero (s : List ℕ) (from to : ℕ) : Type 0 where
   at : (i : ℕ) → from ≤ i → i < to → (s ! i ≡ 0 → ⊥) → NotZero s from to
 
-not_zero : (s : List ℕ) (k n : ℕ) → k + n ≤ length s → all_zero (part s k n) ≡ false → NotZero s k (k + n)
+pub not_zero : (s : List ℕ) (k n : ℕ) → k + n ≤ length s → all_zero (part s k n) ≡ false → NotZero s k (k + n)
 not_zero s k zero h e = absurd (true≢false e)
 not_zero s k (suc n) h e =
     by (eqb (s ! k) 0) refl (not_zero s (suc k) n (omega arith)) (ap (λ (t : List ℕ). all_zero (take (suc n) t)) (sym (drop-cons s k 0 (omega arith))) ∙ e)
@@ -40,7 +32,7 @@ not_zero s k (suc n) h e =
     by true z rest e = later (rest e)
 
 -- one test of a step
-by_test : (P : Step → Type 0) (test : Bool) (number : ℕ) (step : Step) → (test ≡ false → P (Refused number)) → (test ≡ true → P step) → P (must test number step)
+pub by_test : (P : Step → Type 0) (test : Bool) (number : ℕ) (step : Step) → (test ≡ false → P (Refused number)) → (test ≡ true → P step) → P (must test number step)
 by_test P false number step fails holds = fails refl
 by_test P true number step fails holds = holds refl
 
@@ -48,15 +40,6 @@ pub data UpEnd (s : List ℕ) : Step → Type 0 where
   wrong_length : (length s ≡ 136 → ⊥) → UpEnd s (Refused 15)
   not_zero_there : length s ≡ 136 → NotZero s 4 8 → UpEnd s (Refused 17)
   accepted : (panel : ℕ) (base : List ℕ) → panel < 2 ^ 32 → length base ≡ 128 → s ≡ short panel base → UpEnd s (Record (long panel 0 base (zeros 128)))
-
-up_ends : (s : List ℕ) → Bytes s → UpEnd s (step_up s)
-up_ends s b =
-    by_test (UpEnd s) (eqb (length s) 136) 15 _ (λ f. wrong_length (eqb-false (length s) 136 f))
-    (λ t.
-    let n = eqb-true (length s) 136 t in
-    by_test (UpEnd s) (all_zero (part s 4 4)) 17 _ (λ f. not_zero_there n (not_zero s 4 4 (omega arith) f))
-    (λ z. accepted (panel_of s) (base_of s) (panel_under s b (omega arith)) (part_length s 8 128 (omega arith))
-    (sym (take_all 136 s (omega arith)) ∙ starts_short s b (omega arith) z)))
 
 pub data DownEnd (s : List ℕ) : Step → Type 0 where
   wrong_length : (length s ≡ 264 → ⊥) → DownEnd s (Refused 15)
@@ -66,29 +49,9 @@ pub data DownEnd (s : List ℕ) : Step → Type 0 where
   extended : (panel : ℕ) (base extension : List ℕ) → panel < 2 ^ 32 → length base ≡ 128 → length extension ≡ 128 → s ≡ long panel 1 base extension → DownEnd s (Refused 16)
   accepted : (panel : ℕ) (base : List ℕ) → panel < 2 ^ 32 → length base ≡ 128 → s ≡ long panel 0 base (zeros 128) → DownEnd s (Record (short panel base))
 
-down_ends : (s : List ℕ) → Bytes s → DownEnd s (step_down s)
-down_ends s b =
-    by_test (DownEnd s) (eqb (length s) 264) 15 _ (λ f. wrong_length (eqb-false (length s) 264 f))
-    (λ t.
-    let n = eqb-true (length s) 264 t in
-    by_test (DownEnd s) (leb (s ! 4) 1) 17 _ (λ f. count_above_1 n (leb-false (s ! 4) 1 f))
-    (λ c. by_test (DownEnd s) (all_zero (part s 5 3)) 17 _ (λ f. not_zero_there n (not_zero s 5 3 (omega arith) f))
-    (λ z. by_count n (is_long s b n z) (eq-or-lt_of_le (leb-true (s ! 4) 1 c)))))
-  where
-    by_count : length s ≡ 264 → s ≡ long (panel_of s) (s ! 4) (base_of s) (part s 136 128) → (s ! 4 ≡ 1) ⊎ (s ! 4 < 1)
-        → DownEnd s (must (eqb (s ! 4) 1 || all_zero (part s 136 128)) 17 (must (eqb (s ! 4) 0) 16 (Record (short (panel_of s) (base_of s)))))
-    by_count n laid (inl one) =
-        rw one (extended (panel_of s) (base_of s) (part s 136 128) (panel_under s b (omega arith)) (part_length s 8 128 (omega arith)) (part_length s 136 128 (omega arith)) (rw one at laid))
-    by_count n laid (inr none) =
-        let zero : s ! 4 ≡ 0 = omega arith in
-        rw zero
-        (by_test (DownEnd s) (all_zero (part s 136 128)) 17 _ (λ f. uncounted n zero (not_zero s 136 128 (omega arith) f))
-        (λ z. accepted (panel_of s) (base_of s) (panel_under s b (omega arith)) (part_length s 8 128 (omega arith))
-        (rw (zero, zeros_by (part s 136 128) 128 (part_length s 136 128 (omega arith)) z) at laid)))
-
 -- ---- and no other end: each reason gives its end
 
-all_zero_not : (s : List ℕ) (k n : ℕ) → k + n ≤ length s → NotZero s k (k + n) → all_zero (part s k n) ≡ false
+pub all_zero_not : (s : List ℕ) (k n : ℕ) → k + n ≤ length s → NotZero s k (k + n) → all_zero (part s k n) ≡ false
 all_zero_not s k zero h (at i low high z) = absurd (omega arith)
 all_zero_not s k (suc n) h (at i low high z) =
     ap (λ (t : List ℕ). all_zero (take (suc n) t)) (drop-cons s k 0 (omega arith)) ∙ by (eq-or-lt_of_le low) (all_zero_not s (suc k) n (omega arith))
@@ -97,46 +60,11 @@ all_zero_not s k (suc n) h (at i low high z) =
     by (inl e) rest = rw (ne_eqb (s ! k) 0 (λ y. z (ap (λ (j : ℕ). s ! j) (sym e) ∙ y))) refl
     by (inr l) rest = rw (rest (at i (omega arith) (omega arith) z)) (and-false (eqb (s ! k) 0))
 
-up_by : (s : List ℕ) (x : Step) → UpEnd s x → step_up s ≡ x
-up_by s x (wrong_length h) = rw (ne_eqb (length s) 136 h) refl
-up_by s x (not_zero_there n z) = rw (n, all_zero_not s 4 4 (omega arith) z) refl
-up_by s x (accepted panel base p b is) = rw is (up_of_short panel base p b)
-
-either_way : (test : Bool) (number : ℕ) → must test number (Refused number) ≡ Refused number
-either_way true number = refl
-either_way false number = refl
-
-down_by : (s : List ℕ) (x : Step) → DownEnd s x → step_down s ≡ x
-down_by s x (wrong_length h) = rw (ne_eqb (length s) 264 h) refl
-down_by s x (count_above_1 n c) = rw (n, lt-leb (s ! 4) 1 c) refl
-down_by s x (not_zero_there n z) = rw (n, all_zero_not s 5 3 (omega arith) z) (either_way (leb (s ! 4) 1) 17)
-down_by s x (uncounted n c z) = rw (n, c, all_zero_not s 136 128 (omega arith) z) (either_way (all_zero (part s 5 3)) 17)
-down_by s x (extended panel base extension p b e is) = rw is (down_with_extension panel base p b extension e)
-down_by s x (accepted panel base p b is) = rw is (down_of_long panel base p b)
-
-pub up_exactly : (s : List ℕ) → Bytes s → (x : Step) → (step_up s ≡ x) ↔ UpEnd s x
-up_exactly s b x = (λ e. subst (UpEnd s) e (up_ends s b), up_by s x)
-
-pub down_exactly : (s : List ℕ) → Bytes s → (x : Step) → (step_down s ≡ x) ↔ DownEnd s x
-down_exactly s b x = (λ e. subst (DownEnd s) e (down_ends s b), down_by s x)
-
 -- ---- there and back
 
 -- a step that gives a record was handed one of its length
 pub takes : (size : ℕ) (s t : List ℕ) (step : Step) → must (eqb (length s) size) 15 step ≡ Record t → length s ≡ size
 takes size s t step = by_test (λ x. x ≡ Record t → length s ≡ size) (eqb (length s) size) 15 step (λ f e. cc) (λ h e. eqb-true (length s) size h)
-
-pub up_then_down : (s t : List ℕ) → Bytes s → step_up s ≡ Record t → step_down t ≡ Record s
-up_then_down s t b e = back t ((up_exactly s b (Record t)).0 e)
-  where
-    back : (t : List ℕ) → UpEnd s (Record t) → step_down t ≡ Record s
-    back t (accepted panel base p n is) = rw is (down_of_long panel base p n)
-
-pub down_then_up : (s t : List ℕ) → Bytes s → step_down s ≡ Record t → step_up t ≡ Record s
-down_then_up s t b e = back t ((down_exactly s b (Record t)).0 e)
-  where
-    back : (t : List ℕ) → DownEnd s (Record t) → step_up t ≡ Record s
-    back t (accepted panel base p n is) = rw is (up_of_short panel base p n)
 
 -- ---- 0 is the number of no refusal
 

@@ -5,7 +5,8 @@ use Rattle.std.proofs.Math.Seq.{drop-nil}
 use Rattle.write_leaf.specs.Bytes.{Bytes}
 use Rattle.write_leaf.specs.Again.{take_bytes, drop_bytes}
 use Rattle.register.specs.Register.{Step, Refused, Record}
-use Rattle.register.specs.Promises.{Numbered, up_then_down, down_then_up, takes}
+use Rattle.register.specs.Promises.{Numbered, takes}
+use Rattle.register.proofs.Promises.{up_then_down, down_then_up}
 use Rattle.register_file.specs.File.{other, step_of, from_of, Converted, before, converted}
 use Rattle.register_file.specs.Laws.{numbered, first, no_records, no_bytes, ahead, at_start}
 use Rattle.register_file.specs.declared.Way.{Way}
