@@ -9,7 +9,6 @@ use Rattle.picking.specs.Score.{choice}
 use Rattle.picking.specs.Entry.{entry}
 use Rattle.picking.specs.declared.Limits.{Limits}
 use Rattle.picking.specs.declared.Choice.{Choice}
-use Rattle.picking.specs.declared.Choice.TheVariants as Choice
 use Rattle.timing_numbers.specs.Numbers.{numbers_of}
 
 -- of a choice: 0 and the timing's numbers, with what was lent behind them, or the refusal and what was lent

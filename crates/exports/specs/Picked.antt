@@ -12,7 +12,6 @@ use Rattle.picking.specs.Promises.{computed}
 use Rattle.picking.specs.Entry.{its_timing}
 use Rattle.picking.specs.declared.Limits.{Limits}
 use Rattle.picking.specs.declared.Choice.{Choice}
-use Rattle.picking.specs.declared.Choice.TheVariants as Choice
 use Rattle.timing_numbers.specs.Numbers.{numbers_of}
 use Rattle.exports.specs.Pick.{shown, judged, pick_of}
 
