@@ -21,7 +21,7 @@ use Rattle.bursts.specs.declared.Report.TheVariants.{Waiting, At, Refused}
 use Rattle.bursts.specs.Bursts.{Standing, held, standing, report_of, told, fresh, grow, after}
 use Rattle.bursts.specs.Theorems.{Made, made_new, made_take, joined}
 use contract.Lifetimes.{Lfts}
-use Rattle.std.specs.Borrow.{Bor}
+use Rattle.std.specs.Borrow.{Bor, MutBor}
 use Rattle.bursts.proofs.finish.Reads as finish
 use Rattle.exports.proofs.edid_burst.Reads as edid-burst
 use Rattle.exports.proofs.edid_burst_number.Reads as burst-number
@@ -35,7 +35,7 @@ use Rattle.demands.specs.Cases.{longest}
 -- a call of `edid_burst` may be made on the state s and the burst b; the caller learns that it answers r, and leaves the state t
 abbrev pub Burst : List ℕ → List ℕ → ℕ → List ℕ → Type 0
 Burst s b r t =
-    (κs : Lfts 2) × (before : Bor (List ℕ)) × (burst : Bor (List ℕ)) × (later : Bor (List ℕ)) × (before.now ≡ s) × (burst.now ≡ b) × (later.now ≡ t)
+    (κs : Lfts 2) × (before : MutBor (List ℕ)) × (burst : Bor (List ℕ)) × (later : MutBor (List ℕ)) × (before.now ≡ s) × (burst.now ≡ b) × (later.now ≡ t)
     × edid-burst.Asked κs (before, (burst, tt)) × edid-burst.Learnt κs (before, (burst, tt)) r (later, (burst, tt))
 
 -- and at the end of `edid_burst_number` and `edid_burst_taken`
@@ -77,7 +77,7 @@ told_number (got a n) = refl
 told_number (refused k n) = refl
 
 -- nothing is asked of a caller
-pub asked : (κs : Lfts 2) (state burst : Bor (List ℕ)) → edid-burst.Asked κs (state, (burst, tt))
+pub asked : (κs : Lfts 2) (state : MutBor (List ℕ)) (burst : Bor (List ℕ)) → edid-burst.Asked κs (state, (burst, tt))
 asked κs state burst = tt
 
 pub asked_at_end : (κs : Lfts 1) (state : Bor (List ℕ)) → burst-number.Asked κs (state, tt) × burst-taken.Asked κs (state, tt)
