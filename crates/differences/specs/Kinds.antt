@@ -3,7 +3,7 @@
 -- number, but for a text that is filled up with something else than spaces.
 use Prim.Native.Nat.{ℕ, zero, suc, ◌+◌, ◌*◌, ◌<◌}
 use Rattle.std.specs.Prelude.{◌≡◌, Bool, true, cond, not, leb, ltb, drop}
-use Rattle.std.proofs.Math.Path.{refl, sym, ap}
+use Rattle.std.proofs.Math.Path.{refl, sym, ap, subst}
 use Rattle.std.proofs.Common.{◌∙◌}
 use Rattle.std.proofs.Math.Bool.{false}
 use Rattle.std.proofs.lemmas.Bool.{false≢true}
@@ -26,7 +26,6 @@ use Rattle.crate_record.specs.declared.Held.{Held as CrateHeld}
 use Rattle.crate_detailed.specs.Detailed.{detailed}
 use Rattle.crate_detailed.specs.declared.MaybeTiming.{MaybeTiming}
 use Rattle.crate_descriptors.specs.Descriptors as crate
-use Rattle.crate_descriptors.specs.declared.Points.{Points}
 use Rattle.crate_descriptors.specs.declared.Points.TheVariants.{Two}
 use Rattle.crate_descriptors.specs.declared.Slot.{Slot}
 use Rattle.crate_text.specs.Text.{skip, span, text}
@@ -41,7 +40,8 @@ use Rattle.standard_parts.specs.Text.{text_length, all_spaces}
 use Rattle.standard_parts.specs.Structure.{since4}
 use Rattle.standard_parts.specs.Descriptors.{secondary_of, range_refusal}
 use Rattle.standard_parts.specs.declared.Structure.{Structure}
-use Rattle.standard_slots.specs.Said.{Said, refusal, timing, points, Lists, lists, of_point, point_at, text_in, text_as, range_in, by_tag, said}
+use Rattle.standard_slots.specs.Said.{Said, refusal, Lists, lists, of_point, of_timed, point_at, text_in, text_as, range_in, by_tag, said}
+use Rattle.standard_timing.specs.Timing.{timing_in}
 use Rattle.standard_reading.specs.Slots.{judge}
 use Rattle.write_leaf.specs.Bytes.{Bytes}
 use Rattle.write_leaf.specs.Again.{drop_bytes}
@@ -231,14 +231,22 @@ module _ (Still : Type 0) (σ : Structure) (F : ℕ → Type 0) (b0 b1 b2 b3 b4 
   some_said zero t = refl
   some_said (suc i) t = refl
 
+  -- without a clock a later slot says what its tag names
+  later_said : (i : ℕ) → eqb (b0 + 256 * b1) 0 ≡ true → said σ (suc i) slot at ≡ by_tag σ (tag_of b3) slot at
+  unfolding said
+  later_said i clock =
+      ap (λ (t : Bool). cond t (cond (eqb (suc i) 0) (refusal 3) (by_tag σ (tag_of b3) slot at)) (of_timed (timing_in slot))) clock
+      ∙ ap (λ (t : Bool). cond t (refusal 3) (by_tag σ (tag_of b3) slot at)) (ne_eqb (suc i) 0 (λ e. omega arith))
+
   -- a slot i without a clock, and one with a clock
   clockless_along : (i : ℕ) → Clean Still σ slot → eqb (b0 + 256 * b1) 0 ≡ true → ((n : ℕ) → said σ i slot at ≡ refusal n → F n) → (other_fill slot ≡ true → F 5)
       → Along (Told (said σ i slot at)) F (detailed >>= said_at i) (slot ++ rest) at
   unfolding detailed byte word said crate.descriptor crate.tagged
   clockless_along zero c clock refused filled = rw (clock, Along) (refused 3 (rw clock))
   clockless_along (suc i) c clock refused filled =
-      let later : eqb (suc i) 0 ≡ false = ne_eqb (suc i) 0 (λ e. omega arith) in
-      rw (clock, later, Along) (by_tag_lem c clock (tag_of b3) (known b3) (λ n e. refused n (rw (clock, later) e)) filled)
+      let e = later_said i clock in
+      subst (λ y. Along (Told y) F (detailed >>= said_at (suc i)) (slot ++ rest) at) (sym e)
+      (rw (clock, Along) (by_tag_lem c clock (tag_of b3) (known b3) (λ n q. refused n (e ∙ q)) filled))
 
   clocked_along : (i : ℕ) → Clean Still σ slot → eqb (b0 + 256 * b1) 0 ≡ false → ((n : ℕ) → said σ i slot at ≡ refusal n → F n)
       → Along (Told (said σ i slot at)) F (detailed >>= said_at i) (slot ++ rest) at

@@ -27,7 +27,7 @@ use Rattle.standard_parts.specs.Structure.{since4}
 use Rattle.standard_parts.specs.Head.{week_of, depth_of, input_of, image_of, gamma_of, type_of, tells_interface, kind_of as standardKindOf, features_of}
 use Rattle.standard_parts.specs.Descriptors.{offsets_of, limits_of}
 use Rattle.standard_parts.specs.Color.{point_of}
-use Rattle.standard_parts.specs.Timings.{ratio, ratio_of, pair_of}
+use Rattle.standard_parts.specs.Timings.{ratio_of, pair_of}
 use Rattle.standard_parts.specs.declared.Structure.{Structure}
 use Rattle.standard_parts.specs.declared.Pair.{Pair}
 use Rattle.standard_slots.specs.Said.{of_pair, of_point}
