@@ -2,9 +2,7 @@
 use Rattle.std.specs.Prelude.{ℕ, suc, ◌+◌, ◌-◌, ◌*◌, ◌≤◌, Bool, false, cond, List, [], ◌∷◌, eqb, leb, ltb, drop}
 use Rattle.timing.specs.Axis.{pixels, lines}
 use Rattle.pick_lines.specs.declared.Number.{Number}
-use Rattle.pick_lines.specs.declared.Number.TheVariants as Number
 use Rattle.pick_lines.specs.declared.Asked.{Asked}
-use Rattle.pick_lines.specs.declared.Asked.TheVariants as Asked
 
 abbrev pub is_digit : ℕ → Bool
 is_digit b = cond (ltb b 48) false (ltb b 58)

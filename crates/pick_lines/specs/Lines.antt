@@ -5,7 +5,6 @@ use Rattle.shared_lines.specs.Lines.{refuse_line}
 use Rattle.standard_slot_lines.specs.Lines.{detailed_line}
 use Rattle.standard_record.specs.declared.DetailedTimings.{DetailedTimings}
 use Rattle.standard_record.specs.declared.Verdict.{Verdict}
-use Rattle.standard_record.specs.declared.Verdict.TheVariants as Verdict
 use Rattle.standard_record.specs.declared.StandardReading.{StandardReading}
 use Rattle.standard_reading.specs.Block.{standard_of}
 use Rattle.picking.specs.Best.{listed}
@@ -13,10 +12,8 @@ use Rattle.picking.specs.Score.{choice}
 use Rattle.picking.specs.Entry.{entry}
 use Rattle.picking.specs.declared.Limits.{Limits}
 use Rattle.picking.specs.declared.Choice.{Choice}
-use Rattle.picking.specs.declared.Choice.TheVariants as Choice
 use Rattle.pick_lines.specs.Asked.{asked_in}
 use Rattle.pick_lines.specs.declared.Asked.{Asked}
-use Rattle.pick_lines.specs.declared.Asked.TheVariants as Asked
 
 -- the index, and the timing's line as in the standard listing; or the refusal
 unfoldable pub choice_lines : DetailedTimings → Choice → List ℕ

@@ -6,7 +6,6 @@ use Rattle.steps.specs.declared.Refusal.{Refusal}
 use Rattle.shared_lines.specs.Lines.{refuse_line}
 use Rattle.standard_slot_lines.specs.Lines.{detailed_line}
 use Rattle.standard_record.specs.declared.Verdict.{Verdict}
-use Rattle.standard_record.specs.declared.Verdict.TheVariants as Verdict
 use Rattle.standard_record.specs.declared.DetailedTimings.{DetailedTimings}
 use Rattle.standard_reading.specs.Block.{standard_of}
 use Rattle.picking.specs.Best.{Best, NoneQualifies, Chooses, listed}
@@ -14,11 +13,9 @@ use Rattle.picking.specs.Score.{choice, chooses}
 use Rattle.picking.specs.Entry.{entry, its_timing}
 use Rattle.picking.specs.declared.Limits.{Limits}
 use Rattle.picking.specs.declared.Choice.{Choice}
-use Rattle.picking.specs.declared.Choice.TheVariants as Choice
 use Rattle.pick_lines.specs.Asked.{asked_in}
 use Rattle.pick_lines.specs.Lines.{bad_line, choice_lines, judged_lines, reading_lines, answer_to, answer}
 use Rattle.pick_lines.specs.declared.Asked.{Asked}
-use Rattle.pick_lines.specs.declared.Asked.TheVariants as Asked
 
 -- what is printed of a block's timings and its verdict; the entry at an index is a timing with its slot
 pub data Prints (l : Limits) (d : DetailedTimings) (v : Verdict) : List ℕ → Type 0 where

@@ -9,18 +9,15 @@ use Rattle.shared_lines.specs.Short.{refuse_length}
 use Rattle.standard_slot_lines.specs.Short.{detailed_length}
 use Rattle.standard_record.specs.declared.DetailedTimings.{DetailedTimings}
 use Rattle.standard_record.specs.declared.Verdict.{Verdict}
-use Rattle.standard_record.specs.declared.Verdict.TheVariants as Verdict
 use Rattle.standard_reading.specs.Block.{standard_of}
 use Rattle.picking.specs.Best.{listed}
 use Rattle.picking.specs.Score.{choice}
 use Rattle.picking.specs.Entry.{entry}
 use Rattle.picking.specs.declared.Limits.{Limits}
 use Rattle.picking.specs.declared.Choice.{Choice}
-use Rattle.picking.specs.declared.Choice.TheVariants as Choice
 use Rattle.pick_lines.specs.Asked.{asked_in}
 use Rattle.pick_lines.specs.Lines.{choice_lines, judged_lines, reading_lines, answer_to, answer}
 use Rattle.pick_lines.specs.declared.Asked.{Asked}
-use Rattle.pick_lines.specs.declared.Asked.TheVariants as Asked
 
 choice_length : (l : DetailedTimings) (c : Choice) → length (choice_lines l c) ≤ 201
 unfolding choice_lines flat

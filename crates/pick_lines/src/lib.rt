@@ -1,4 +1,6 @@
 // What the program `pick` is asked and what it prints: three limits in the first line, then a block; the index of the timing to show, and its line.
+#![tactic(auto)]
+
 ghost use Rattle.std.specs.Prelude.{◌≤◌, ◌≡◌, length, take, drop};
 ghost use Rattle.page.specs.Page.{page, ◌▷◌};
 ghost use Rattle.picking.specs.Best.{listed};
