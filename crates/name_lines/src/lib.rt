@@ -1,4 +1,6 @@
 // The line of two blocks that says which name to show: whose it is, where it begins, how many bytes it has, and these.
+#![tactic(auto)]
+
 ghost use Rattle.std.specs.Prelude.{◌≡◌, take, drop};
 ghost use Rattle.page.specs.Page.{page, ◌▷◌};
 ghost use Rattle.name_lines.specs.Lines as lines;
