@@ -12,7 +12,6 @@ use Rattle.standard_record.specs.Held.{held_pair, held_point, held_timing, held}
 use Rattle.standard_record.specs.declared.StandardRecord.{StandardRecord}
 use Rattle.standard_record.specs.declared.DetailedTiming.{DetailedTiming}
 use Rattle.standard_record.specs.declared.Descriptor.{Descriptor}
-use Rattle.standard_record.specs.declared.Verdict.{Verdict}
 use Rattle.standard_record.specs.declared.Verdict.TheVariants.{Accepted}
 use Rattle.standard_timing.specs.Timing.{clock_in}
 use Rattle.standard_head.specs.Head.{structure_in}
