@@ -1,4 +1,6 @@
 // The listing of a CTA-861 extension, written to a page that the caller lends.
+#![tactic(auto)]
+
 ghost use Rattle.std.specs.Prelude.{◌≡◌, take, drop};
 ghost use Rattle.page.specs.Page.{page, ◌▷◌};
 ghost use Rattle.cta_lines.specs.Lines as lines;
