@@ -7,13 +7,11 @@ use Rattle.standard_record.specs.declared.Product.{Product}
 use Rattle.standard_record.specs.declared.Week.{Week}
 use Rattle.standard_record.specs.declared.Week.TheVariants.{Made, ModelYear}
 use Rattle.standard_record.specs.declared.Depth.{Depth}
-use Rattle.standard_record.specs.declared.Depth.TheVariants as Depth
 use Rattle.standard_record.specs.declared.VideoInput.{VideoInput}
 use Rattle.standard_record.specs.declared.VideoInput.TheVariants.{Analog, Digital, Interface}
 use Rattle.standard_record.specs.declared.ImageSize.{ImageSize}
 use Rattle.standard_record.specs.declared.ImageSize.TheVariants as Size
 use Rattle.standard_record.specs.declared.Gamma.{Gamma}
-use Rattle.standard_record.specs.declared.Gamma.TheVariants as Gamma
 use Rattle.standard_record.specs.declared.DisplayType.{DisplayType}
 use Rattle.standard_record.specs.declared.DisplayType.TheVariants.{Monochrome, RGBColor, OtherColor, Undefined}
 use Rattle.standard_record.specs.declared.Kind.{Kind}

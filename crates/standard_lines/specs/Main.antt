@@ -1,6 +1,6 @@
 -- The lines before the descriptors, which need nothing of the input: the text of a panel has them too.
 use Rattle.std.specs.Prelude.{◌≡◌, ℕ, List, [], ◌∷◌}
-use Rattle.std.proofs.Common.{append_assoc, sym}
+use Rattle.std.proofs.Common.{append_assoc}
 use Rattle.page.specs.Words.{flat}
 use Rattle.shared_lines.specs.Lines.{version_line, established_line, extensions_line}
 use Rattle.standard_slot_lines.specs.Lines.{detailed_lines, descriptor_lines}

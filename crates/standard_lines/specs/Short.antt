@@ -10,7 +10,6 @@ use Rattle.standard_record.specs.declared.Product.{Product}
 use Rattle.standard_record.specs.declared.Week.{Week}
 use Rattle.standard_record.specs.declared.Week.TheVariants.{Made, ModelYear}
 use Rattle.standard_record.specs.declared.Depth.{Depth}
-use Rattle.standard_record.specs.declared.Depth.TheVariants as Depth
 use Rattle.standard_record.specs.declared.VideoInput.{VideoInput}
 use Rattle.standard_record.specs.declared.VideoInput.TheVariants.{Analog, Digital, Interface}
 use Rattle.standard_record.specs.declared.Kind.{Kind}
@@ -19,7 +18,6 @@ use Rattle.standard_record.specs.declared.Features.{Features}
 use Rattle.standard_record.specs.declared.ImageSize.{ImageSize}
 use Rattle.standard_record.specs.declared.ImageSize.TheVariants as Size
 use Rattle.standard_record.specs.declared.Gamma.{Gamma}
-use Rattle.standard_record.specs.declared.Gamma.TheVariants as Gamma
 use Rattle.standard_record.specs.declared.Display.{Display}
 use Rattle.standard_record.specs.declared.Chromaticities.{Chromaticities}
 use Rattle.standard_record.specs.declared.HeldPoint.{HeldPoint}

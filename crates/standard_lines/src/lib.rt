@@ -1,4 +1,6 @@
 // The listing of the standard reading, written to a page that the caller lends.
+#![tactic(auto)]
+
 ghost use Rattle.std.specs.Prelude.{◌≡◌, take, drop};
 ghost use Rattle.page.specs.Page.{page, ◌▷◌};
 ghost use Rattle.standard_lines.specs.Lines as lines;
