@@ -1,6 +1,5 @@
 -- A panel's text read: the record that its lines give with the bytes that the record's spans point to, or refusal 19 with the number of a line.
 use Rattle.std.specs.Prelude.{ℕ, cond, List, ltb, length, replicate}
-use Rattle.steps.specs.declared.Refusal.{Refusal}
 use Rattle.standard_record.specs.Filler.{blank}
 use Rattle.standard_record.specs.declared.Display.{Display}
 use Rattle.standard_record.specs.declared.Color.{Color}

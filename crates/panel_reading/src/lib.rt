@@ -1,4 +1,6 @@
 // A panel's text as a record, with the bytes that the record's spans point to; or refusal 19 with the number of a line.
+#![tactic(auto)]
+
 ghost use Rattle.std.specs.Prelude.{◌≡◌};
 ghost use Rattle.panel_reading.specs.Reading.{display_of, color_of, listed_of, record_of, lost, read_by, read_text};
 
