@@ -1,2 +1,4 @@
 -- The laws that the proofs of `register_file` cite.
+pub mod Chain
+pub mod Ended
 pub mod Laws

@@ -2,10 +2,11 @@
 // the memory is the same for a file of any length.
 #![tactic(auto)]
 
-ghost use Rattle.std.specs.Prelude.{◌<◌, ◌≤◌, min, ◌≡◌, false, length, take};
+ghost use Rattle.std.specs.Prelude.{◌+◌, ◌<◌, ◌≤◌, min, ◌≡◌, ℕ, false, length, take};
 ghost use Rattle.std.specs.Io.KnownBytes.{Consumes, IsAtEnd};
 ghost use Rattle.register.specs.Register.{into};
 ghost use Rattle.register_file.specs.File.{step_of, from_of, to_of, converted};
+ghost use Rattle.register_file.specs.Run.{Ends};
 
 use std::io::{Eprint, Read, Write};
 use std::os::fd::AsFd;
@@ -29,6 +30,17 @@ struct Batch {
     records: usize,
     written: usize,
     number: u8,
+}
+
+// What a batch, or the whole file, came to: there may be more; it is whole; the index of a refused record, and the number; the index of the record at which a
+// read failed; the index of the first record of a batch whose write failed.
+#[derive(Clone, Copy)]
+enum End {
+    More,
+    Whole,
+    Refused(u64, u8),
+    ReadFailed(u64),
+    WriteFailed(u64),
 }
 
 // The bytes that came, and whether a read failed then.
@@ -138,22 +150,12 @@ fn fill<R: Read>(input: &mut R, space: &mut [u8]) -> Filled
     }
 }
 
-// The line of a read or a write that failed, and no further batch. Where the line cannot be written there is nobody to tell.
-fn fail<E: Eprint>(errors: &E, index: u64, what: &str) -> bool {
-    let _ = eprintln!(errors; "{index} {what}");
-    false
-}
-
-// The line of a refused record.
-fn refuse<E: Eprint>(errors: &E, index: u64, number: u8) -> bool {
-    let _ = eprintln!(errors; "{index} {number}");
-    false
-}
-
 // How much of what came is stepped: all of it, but not a record that a failed read cut short.
 fn end_of(came: Filled, from: usize) -> usize
     requires { 1 ≤ from }
-    ensures { result ≤ came.count }
+    ensures bound { result ≤ came.count }
+    ensures whole { came.failed ≡ false → result ≡ came.count }
+    ensures cut { came.count < result + from }
 {
     if came.failed {
         came.count - came.count % from
@@ -162,17 +164,17 @@ fn end_of(came: Filled, from: usize) -> usize
     }
 }
 
-// Reads a batch, steps it and writes what it is now; whether to go on. Where the write fails, the index told is that of the batch's first record.
-fn convert_batch<R: Read, W: Write, E: Eprint>(
+// Reads a batch, steps it and writes what it is now. Where the write fails, the index told is that of the batch's first record.
+fn convert_batch<R: Read, W: Write>(
     input: &mut R,
     target: &mut W,
-    errors: &E,
     way: Way,
     index: u64,
     source: &mut [u8],
     output: &mut [u8],
-) -> bool
+) -> End
     requires { (index < 9223372036854775808) × (length source.old ≡ 65536) × (length output.old ≡ 65536) }
+    ensures { Ends way index 248 (R.remaining input.old) (R.remaining input.new) (W.contents target.old) (W.contents target.new) result }
 {
     let from = from(way);
     let size = BATCH * from;
@@ -181,34 +183,52 @@ fn convert_batch<R: Read, W: Write, E: Eprint>(
     let batch = step_all(way, &source[0..end], output);
     let written = batch.written;
     if target.write_all(&output[0..written]).is_err() {
-        return fail(errors, index, "write failed");
+        return End::WriteFailed(index);
     }
     let next = index + batch.records as u64;
     if batch.number != 0 {
-        return refuse(errors, next, batch.number);
+        return End::Refused(next, batch.number);
     }
     if came.failed {
-        return fail(errors, next, "read failed");
+        return End::ReadFailed(next);
     }
-    came.count == size
+    if came.count < size {
+        return End::Whole;
+    }
+    End::More
 }
 
 // The whole file.
-fn convert_all<R: Read, W: Write, E: Eprint>(input: &mut R, target: &mut W, errors: &E, way: Way) {
+fn convert_all<R: Read, W: Write>(input: &mut R, target: &mut W, way: Way) -> End
+    ensures { (n : ℕ) × Ends way 0 n (R.remaining input.old) (R.remaining input.new) (W.contents target.old) (W.contents target.new) result }
+{
     let mut source = [0u8; 65536];
     let mut output = [0u8; 65536];
     let mut index: u64 = 0;
-    while index < MOST
-        && convert_batch(input, target, errors, way, index, &mut source, &mut output)
-    {
-        index += BATCH as u64;
+    while index < MOST {
+        match convert_batch(input, target, way, index, &mut source, &mut output) {
+            End::More => index += BATCH as u64,
+            end => return end,
+        }
     }
+    End::More
 }
 
-// The whole file, from standard input to standard output. What is read and written no contract can say, and nothing comes back, so there is none. A
-// standard output that is not open is told too.
+// A line where not all went well. Where it cannot be written there is nobody to tell.
+fn tell<E: Eprint>(errors: &E, end: End) {
+    let _ = match end {
+        End::More | End::Whole => Ok(()),
+        End::Refused(index, number) => eprintln!(errors; "{index} {number}"),
+        End::ReadFailed(index) => eprintln!(errors; "{index} read failed"),
+        End::WriteFailed(index) => eprintln!(errors; "{index} write failed"),
+    };
+}
+
+// The whole file, from standard input to standard output. What is read and written there no contract can say, and nothing comes back, so there is none:
+// that of `convert_all` says it of every reader and writer. A standard output that is not open is told too.
 pub fn convert(rt: &HostRuntime, way: Way) {
-    convert_all(&mut rt.stdin(), &mut rt.stdout(), rt, way);
+    let end = convert_all(&mut rt.stdin(), &mut rt.stdout(), way);
+    tell(rt, end);
     if rt.stdout().as_fd().try_clone_to_owned().is_err() {
         let _ = eprintln!(rt; "close failed");
     }
