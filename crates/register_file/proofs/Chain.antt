@@ -1,13 +1,13 @@
 -- A batch behind those before it.
-use Rattle.std.proofs.Common.{◌≡◌, ℕ, ◌+◌, ◌*◌, List, [], ◌++◌, arith, length, refl, sym, ap, ◌∙◌, subst, append_assoc, length-append}
+use Rattle.std.proofs.Common.{inl, inr, ◌⊎◌, ◌≡◌, ℕ, ◌+◌, ◌*◌, List, [], ◌++◌, arith, length, refl, sym, ap, ◌∙◌, subst, append_assoc, length-append}
 use Rattle.std.specs.Prelude.{Option}
-use Rattle.std.specs.Io.KnownBytes.{Appends, Consumes}
+use Rattle.std.specs.Io.KnownBytes.{Appends, Consumes, IsAtEnd}
 use Rattle.std.proofs.KnownBytes.{Appends-nil, Appends-trans, Consumes-nil, Consumes-trans}
 use native.Mathlib.Nat.{add-mul}
 use Rattle.register_file.specs.File.{from_of, Converted, converted}
 use Rattle.register_file.specs.Laws.{no_records, ahead}
 use Rattle.register_file.specs.Joined.{joined}
-use Rattle.register_file.specs.Run.{Ends}
+use Rattle.register_file.specs.Run.{Records, Ends}
 use Rattle.register_file.specs.declared.Way.{Way}
 use Rattle.register_file.specs.declared.End.{End}
 use Rattle.register_file.specs.declared.End.TheVariants.{More, Whole, Refused, ReadFailed, WriteFailed}
@@ -31,6 +31,13 @@ module _ (way : Way) (m n : ℕ) (l l₁ l₂ h h₁ h₂ : Option (List ℕ)) (
   taken : (u : List ℕ) → Consumes l l₁ s → Consumes l₁ l₂ (t ++ u) → Consumes l l₂ ((s ++ t) ++ u)
   taken u a b = subst (Consumes l l₂) (sym (append_assoc s t u)) (Consumes-trans l l₁ l₂ s (t ++ u) a b)
 
+whole : (way : Way) (m : ℕ) (s t : List ℕ) → length s ≡ m * from_of way → Records way t → Records way (s ++ t)
+whole way m s t size (k, e) = (m + k, omega (arith, length-append s t, size, e, add-mul m k (from_of way)))
+
+whole_or_end : (way : Way) (m : ℕ) (l : Option (List ℕ)) (s t : List ℕ) → length s ≡ m * from_of way → Records way t ⊎ IsAtEnd l → Records way (s ++ t) ⊎ IsAtEnd l
+whole_or_end way m l s t size (inl r) = inl (whole way m s t size r)
+whole_or_end way m l s t size (inr e) = inr e
+
 pub behind : (way : Way) (m n : ℕ) (l l₁ l₂ h h₁ h₂ : Option (List ℕ)) (end : End) → Ends way 0 m l l₁ h h₁ More → Ends way m n l₁ l₂ h₁ h₂ end
     → Ends way 0 (m + n) l l₂ h h₂ end
 behind way m n l l₁ l₂ h h₁ h₂ More (s, size, read, (z, wrote)) (t, size', read', (z', wrote')) = (
@@ -46,19 +53,21 @@ behind way m n l l₁ l₂ h h₁ h₂ Whole (s, size, read, (z, wrote)) (t, siz
   over,
   (told way m n l l₁ l₂ h h₁ h₂ s t size z ∙ z', written way m n l l₁ l₂ h h₁ h₂ s t size z wrote wrote'),
 )
-behind way m n l l₁ l₂ h h₁ h₂ (Refused index number) (s, size, read, (z, wrote)) (t, more, read', some, its, at, wrote') = (
+behind way m n l l₁ l₂ h h₁ h₂ (Refused index number) (s, size, read, (z, wrote)) (t, more, read', r, some, its, at, wrote') = (
   s ++ t,
   more,
   taken way m n l l₁ l₂ h h₁ h₂ s t size z more read read',
+  whole_or_end way m l₂ s t size r,
   some,
   told way m n l l₁ l₂ h h₁ h₂ s t size z ∙ its,
   omega (arith, at, counted way m n l l₁ l₂ h h₁ h₂ s t size z),
   written way m n l l₁ l₂ h h₁ h₂ s t size z wrote wrote',
 )
-behind way m n l l₁ l₂ h h₁ h₂ (ReadFailed index) (s, size, read, (z, wrote)) (t, cut, read', short, at, (z', wrote')) = (
+behind way m n l l₁ l₂ h h₁ h₂ (ReadFailed index) (s, size, read, (z, wrote)) (t, cut, read', r, short, at, (z', wrote')) = (
   s ++ t,
   cut,
   taken way m n l l₁ l₂ h h₁ h₂ s t size z cut read read',
+  whole way m s t size r,
   short,
   omega (arith, at, counted way m n l l₁ l₂ h h₁ h₂ s t size z),
   (told way m n l l₁ l₂ h h₁ h₂ s t size z ∙ z', written way m n l l₁ l₂ h h₁ h₂ s t size z wrote wrote'),

@@ -2,7 +2,7 @@
 // the memory is the same for a file of any length.
 #![tactic(auto)]
 
-ghost use Rattle.std.specs.Prelude.{◌+◌, ◌<◌, ◌≤◌, min, ◌≡◌, ℕ, false, length, take};
+ghost use Rattle.std.specs.Prelude.{◌+◌, ◌*◌, ◌<◌, ◌≤◌, min, ◌≡◌, ℕ, true, false, length, take};
 ghost use Rattle.std.specs.Io.KnownBytes.{Consumes, IsAtEnd};
 ghost use Rattle.register.specs.Register.{into};
 ghost use Rattle.register_file.specs.File.{step_of, from_of, to_of, converted};
@@ -156,6 +156,7 @@ fn end_of(came: Filled, from: usize) -> usize
     ensures bound { result ≤ came.count }
     ensures whole { came.failed ≡ false → result ≡ came.count }
     ensures cut { came.count < result + from }
+    ensures records { came.failed ≡ true → (n : ℕ) × (result ≡ n * from) }
 {
     if came.failed {
         came.count - came.count % from

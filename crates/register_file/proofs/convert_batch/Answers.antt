@@ -1,6 +1,6 @@
 -- Each end of a batch, by what is shown of batches.
 use Rattle.std.proofs.Common.{◌≡◌, ℕ, ◌-◌, ◌*◌, ◌≤◌, List, arith, length, take, length-take-le}
-use Rattle.register_file.proofs.Ended.{is_more, is_whole, is_refused, is_read_failed, is_write_failed, on_no_err}
+use Rattle.register_file.proofs.Ended.{is_more, is_whole, is_refused, is_read_failed, is_write_failed, on_no_err, records_or_end}
 use Rattle.register_file.proofs.convert_batch.Goals as goal
 
 long : (from : ℕ) (source space : List ℕ) → from ≤ 264 → length source ≡ 65536 → length space ≡ length (take (248 * from - 0) source) → length space ≡ 248 * from
@@ -18,7 +18,9 @@ returns-then-batch-ne0 g c =
     c.from-from.ensures.0 (long c.from-from.result c.args.source.now c.fill-came.new.space c.from-from.ensures.2 c.requires.1 c.fill-came.ensures.within.1)
     (omega (arith, c.fill-came.ensures.within.0, c.fill-came.ensures.within.1)) c.end_of-end.ensures.bound c.fill-came.ensures.bytes c.step_all-batch.ensures.2
     (on_no_err _ c.write_all.result c.is_err.result c.if-is_err.false c.is_err.ensures.value c.write_all.ensures.bytes)
-    c.if-batch-ne0.true
+    (records_or_end c.fill-came.result.failed c.from-from.result c.fill-came.result.count c.end_of-end.result (length (take (248 * c.from-from.result - 0) c.args.source.now)) _ c.end_of-end.ensures.records c.end_of-end.ensures.whole
+    c.fill-came.ensures.end (omega (arith, c.fill-came.ensures.within.1, long c.from-from.result c.args.source.now c.fill-came.new.space c.from-from.ensures.2 c.requires.1 c.fill-came.ensures.within.1))
+    c.fill-came.ensures.within.0) c.if-batch-ne0.true
 
 pub returns-then-came : goal.returns-then-came
 returns-then-came g c =
@@ -28,7 +30,7 @@ returns-then-came g c =
     c.from-from.ensures.0 (long c.from-from.result c.args.source.now c.fill-came.new.space c.from-from.ensures.2 c.requires.1 c.fill-came.ensures.within.1)
     (omega (arith, c.fill-came.ensures.within.0, c.fill-came.ensures.within.1)) c.end_of-end.ensures.bound c.fill-came.ensures.bytes c.step_all-batch.ensures.2
     (on_no_err _ c.write_all.result c.is_err.result c.if-is_err.false c.is_err.ensures.value c.write_all.ensures.bytes)
-    c.if-batch-ne0.false c.end_of-end.ensures.cut
+    (c.end_of-end.ensures.records c.if-came.true) c.if-batch-ne0.false c.end_of-end.ensures.cut
 
 pub returns-then-came-size : goal.returns-then-came-size
 returns-then-came-size g c =
