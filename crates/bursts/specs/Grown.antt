@@ -8,14 +8,11 @@ use Rattle.steps.specs.Laws.{picked_not}
 use Rattle.steps.specs.Answers.{Enough}
 use Rattle.steps.specs.Leaves.{byte, word, long}
 use Rattle.crate_head.specs.Head.{header}
-use Rattle.crate_reading.specs.Reading.{answer}
-use Rattle.crate_end.specs.Ends.{end_of, ends, piece, Went, went}
-use Rattle.crate_end.specs.Whole.{went_end, ends_so}
+use Rattle.crate_end.specs.Ends.{ends, piece, went}
+use Rattle.crate_end.specs.Whole.{went_end}
 use Rattle.crate_end.specs.Onward.{resumed}
-use Rattle.crate_depth.specs.Whole.{first_142}
 use Rattle.crate_depth.specs.Prefix.{stays}
-use Rattle.bursts.specs.declared.Report.TheVariants.{Waiting}
-use Rattle.bursts.specs.Bursts.{Stage, amid, known, Standing, report_of, told, end_or, settled, further, fresh, grow, after}
+use Rattle.bursts.specs.Bursts.{Stage, amid, known, Standing, end_or, settled, further, fresh, grow, after}
 
 -- ---- what is told of an end: nothing exactly where it is out of data
 
@@ -28,27 +25,10 @@ by_enough {A} {C} (refused k n) out on = go (eqb k 1) refl
     go true q = out n (ap (λ (j : ℕ). refused j n) (eqb-true k 1 q))
     go false q = on (λ m r. let one : k ≡ 1 = cc in absurd (eqb-false k 1 q one))
 
-settled_enough : (o : Outcome Unit) (on : Stage) → Enough o → end_or o on ≡ known o
+pub settled_enough : (o : Outcome Unit) (on : Stage) → Enough o → end_or o on ≡ known o
 settled_enough (got a n) on e = refl
 settled_enough (refused k n) on e =
     picked_not (eqb k 1) on (known (refused k n)) (ne_eqb k 1 (λ q. e n (ap (λ (j : ℕ). refused j n) q)))
-
--- the end alone says as much
-enough_end : {A : Type 0} (o : Outcome A) → Enough o → Enough (end_of o)
-enough_end (got a n) e = λ m q. let z : ◌≡◌ {A = ℕ} 0 1 = cc in absurd (omega arith)
-enough_end (refused k n) e = λ m q. let one : k ≡ 1 = cc in e n (ap (λ (j : ℕ). refused j n) one)
-
-report_end : {A : Type 0} (o : Outcome A) → report_of (end_of o) ≡ report_of o
-report_end (got a n) = refl
-report_end (refused k n) = refl
-
-told_nothing : (w : Went) (n : ℕ) → w.end ≡ refused 1 n → told (settled w) ≡ Waiting
-told_nothing w n e = ap (λ (o : Outcome Unit). told (end_or o (amid w.piece w.at))) e
-
-told_end : {A : Type 0} (w : Went) (o : Outcome A) → w.end ≡ end_of o → Enough o → told (settled w) ≡ report_of o
-told_end w o q e =
-    ap (λ (x : Outcome Unit). told (end_or x (amid w.piece w.at))) q
-    ∙ ap told (settled_enough (end_of o) (amid w.piece w.at) (enough_end o e)) ∙ report_end o
 
 -- ---- after the bursts
 
@@ -82,42 +62,24 @@ take_more (suc n) (x ∷ s) t =
     let e : n - length s ≡ suc n - suc (length s) = omega arith in
     ap (λ (l : List ℕ). x ∷ l) (take_more n s t ∙ ap (λ (k : ℕ). take n s ++ take k t) e)
 
-grown : (s b : List ℕ) → grow (so_far s) b ≡ so_far (s ++ b)
-unfolding so_far
-grown s b =
-    let u = settled (went 5 0 (take 142 s) 0) in
-    let bytes : take 142 (take 142 s ++ b) ≡ take 142 (s ++ b) = take_first 142 s b in
-    let parts : take 142 (s ++ b) ≡ take 142 s ++ take (142 - length s) b = take_more 142 s b in
-    let stage : further u (take 142 (take 142 s ++ b)) ≡ settled (went 5 0 (take 142 (s ++ b)) 0) =
-    ap (further u) (bytes ∙ parts) ∙ goes_on (take 142 s) (take (142 - length s) b) ∙ ap (λ (l : List ℕ). settled (went 5 0 l 0)) (sym parts) in
-    λ i. record { bytes = bytes i; stage = stage i }
-
-grown_all : (s : List ℕ) (bs : List (List ℕ)) → foldl grow (so_far s) bs ≡ so_far (s ++ flatten bs)
-unfolding flatten
-grown_all s [] = ap so_far (sym (append-nil s))
-grown_all s (b ∷ bs) = ap (λ a. foldl grow a bs) (grown s b) ∙ grown_all (s ++ b) bs ∙ ap so_far (append_assoc s b (flatten bs))
-
 -- of no bytes at all: they are out of data
 nothing_yet : fresh ≡ so_far []
 unfolding so_far went piece header long word byte
 nothing_yet = refl
 
 pub stands_for : (bs : List (List ℕ)) → after bs ≡ so_far (flatten bs)
+unfolding so_far flatten
 stands_for bs = ap (λ a. foldl grow a bs) nothing_yet ∙ grown_all [] bs
+  where
+    grown : (s b : List ℕ) → grow (so_far s) b ≡ so_far (s ++ b)
+    grown s b =
+        let u = settled (went 5 0 (take 142 s) 0) in
+        let bytes : take 142 (take 142 s ++ b) ≡ take 142 (s ++ b) = take_first 142 s b in
+        let parts : take 142 (s ++ b) ≡ take 142 s ++ take (142 - length s) b = take_more 142 s b in
+        let stage : further u (take 142 (take 142 s ++ b)) ≡ settled (went 5 0 (take 142 (s ++ b)) 0) =
+        ap (further u) (bytes ∙ parts) ∙ goes_on (take 142 s) (take (142 - length s) b) ∙ ap (λ (l : List ℕ). settled (went 5 0 l 0)) (sym parts) in
+        λ i. record { bytes = bytes i; stage = stage i }
 
--- ---- what is told
-
--- how the reading of what came ends is how that of their bytes does
-so_far_end : (s : List ℕ) → (went 5 0 (take 142 s) 0).end ≡ end_of (answer s)
-so_far_end s = ends_so (take 142 s) ∙ ap end_of (first_142 s)
-
--- nothing is told where the bytes are out of data, and else their answer is
-pub says_nothing : (bs : List (List ℕ)) (n : ℕ) → answer (flatten bs) ≡ refused 1 n → told (after bs).stage ≡ Waiting
-unfolding so_far
-says_nothing bs n e =
-    ap (λ a. told a.stage) (stands_for bs) ∙ told_nothing (went 5 0 (take 142 (flatten bs)) 0) n (so_far_end (flatten bs) ∙ ap end_of e)
-
-pub says : (bs : List (List ℕ)) → Enough (answer (flatten bs)) → told (after bs).stage ≡ report_of (answer (flatten bs))
-unfolding so_far
-says bs e =
-    ap (λ a. told a.stage) (stands_for bs) ∙ told_end (went 5 0 (take 142 (flatten bs)) 0) (answer (flatten bs)) (so_far_end (flatten bs)) e
+    grown_all : (s : List ℕ) (bs : List (List ℕ)) → foldl grow (so_far s) bs ≡ so_far (s ++ flatten bs)
+    grown_all s [] = ap so_far (sym (append-nil s))
+    grown_all s (b ∷ bs) = ap (λ a. foldl grow a bs) (grown s b) ∙ grown_all (s ++ b) bs ∙ ap so_far (append_assoc s b (flatten bs))

@@ -19,7 +19,8 @@ use Rattle.crate_end.specs.Ends.{piece, pieces_from, went}
 use Rattle.bursts.specs.declared.Report.{Report}
 use Rattle.bursts.specs.declared.Report.TheVariants.{Waiting, At, Refused}
 use Rattle.bursts.specs.Bursts.{Standing, held, standing, report_of, told, fresh, grow, after}
-use Rattle.bursts.specs.Theorems.{Made, made_new, made_take, joined}
+use Rattle.bursts.specs.Theorems.{Made, made_new, made_take}
+use Rattle.bursts.proofs.Theorems.{joined}
 use contract.Lifetimes.{Lfts}
 use Rattle.std.specs.Borrow.{Bor, MutBor}
 use Rattle.bursts.proofs.finish.Reads as finish
