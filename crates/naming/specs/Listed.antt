@@ -62,22 +62,22 @@ abbrev pub SoundName : List ℕ → Named → Type 0
 SoundName s Not = Unit
 SoundName s (By t) = Text s t 126 × (length s ≡ 128)
 
-first_sound : (s : List ℕ) → length s ≡ 128 → (hs : List Held) → Sounds s hs 126 → SoundName s (first (names_in hs))
-first_sound s l [] h = tt
-first_sound s l (k ∷ hs) h = go k.descriptor h.0 (first_sound s l hs h.1)
-  where
-    go : (d : Descriptor) → Sound s d 126 → SoundName s (first (names_in hs)) → SoundName s (first (name_as d ++ names_in hs))
-    go (Descriptor.Serial t) q later = later
-    go (Descriptor.Text t) q later = later
-    go (Descriptor.Range r t) q later = later
-    go (Descriptor.Name t) q later = (q, l)
-    go (Descriptor.Undefined tag d) q later = later
-    go (Descriptor.MakerDefined tag d) q later = later
-
 pub sound_name : (s : List ℕ) → SoundName s (name_of s)
 unfolding name_of
 sound_name s = go (verdict_of s) refl
   where
+    first_sound : (s : List ℕ) → length s ≡ 128 → (hs : List Held) → Sounds s hs 126 → SoundName s (first (names_in hs))
+    first_sound s l [] h = tt
+    first_sound s l (k ∷ hs) h = go k.descriptor h.0 (first_sound s l hs h.1)
+      where
+        go : (d : Descriptor) → Sound s d 126 → SoundName s (first (names_in hs)) → SoundName s (first (name_as d ++ names_in hs))
+        go (Descriptor.Serial t) q later = later
+        go (Descriptor.Text t) q later = later
+        go (Descriptor.Range r t) q later = later
+        go (Descriptor.Name t) q later = (q, l)
+        go (Descriptor.Undefined tag d) q later = later
+        go (Descriptor.MakerDefined tag d) q later = later
+
     go : (v : Verdict) → verdict_of s ≡ v → SoundName s (unless_refused v (first (texts_of s 4)))
     go Accepted e =
         let a = end_is_verdict s ∙ e in

@@ -1,23 +1,13 @@
--- What holds of the answers to every two blocks.
-use Rattle.std.specs.Prelude.{ℕ, ◌+◌, ◌≤◌, ◌≡◌, refl, List, length}
+-- What holds of the answers to every two blocks. That the part shown is within its block is in proofs/Promises.
+use Rattle.std.specs.Prelude.{ℕ, ◌≡◌, refl, List, length}
 use Rattle.std.proofs.Common.{sym, ◌∙◌, arith, length-take, length-drop}
 use Rattle.std.specs.Borrow.{Bor}
 use Rattle.steps.specs.declared.Span.{Span}
-use Rattle.naming.specs.Name.{name_of, shown, shown_of, number_of, place_of, from, IsPart, IsShown}
-use Rattle.naming.specs.Listed.{SoundName, sound_name}
+use Rattle.naming.specs.Name.{name_of, shown, shown_of, number_of, place_of, IsPart, IsShown}
 use Rattle.naming.specs.declared.Named.{Named}
 use Rattle.naming.specs.declared.Named.TheVariants.{Not, By}
 use Rattle.naming.specs.declared.Shown.{Shown}
 use Rattle.naming.specs.declared.Shown.TheVariants.{Panel}
-
--- the part shown is within its block
-pub within : (p q : List ℕ) → let x = shown_of p q in (place_of x).start + (place_of x).len ≤ length (from x p q)
-within p q = go (name_of p) (name_of q) (sound_name p) (sound_name q)
-  where
-    go : (a b : Named) → SoundName p a → SoundName q b → let x = shown a b in (place_of x).start + (place_of x).len ≤ length (from x p q)
-    go (By t) b h k = omega (arith, h.0.inside, h.1)
-    go Not (By t) h k = omega (arith, k.0.inside, k.1)
-    go Not Not h k = omega arith
 
 -- ---- the answers agree
 

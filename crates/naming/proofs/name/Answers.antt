@@ -1,6 +1,6 @@
 -- `naming::name` meets its contract: each arm by what was found, whose part is within its block. Assumes nothing.
 use mathlib.Core.Path.{sym, ◌∙◌}
-use Rattle.naming.specs.Promises.{within}
+use Rattle.naming.proofs.Promises.{within}
 use Rattle.naming.proofs.name.Goals as goal
 
 pub part_of-requires : goal.part_of-requires
