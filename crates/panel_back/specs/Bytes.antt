@@ -1,11 +1,11 @@
 -- A text in quotes and a run of bytes, as they are printed, are read as those bytes.
-use Rattle.std.specs.Prelude.{ℕ, zero, suc, ◌+◌, ◌-◌, ◌*◌, ◌/◌, ◌%◌, ◌<◌, ◌≤◌, Bool, true, false, cond, not, ◌&&◌, ◌||◌, List, [], ◌∷◌, ◌++◌, ◌≡◌, refl, eqb, ltb, leb, length}
-use Rattle.std.proofs.Common.{append-nil, append_assoc, sym, ap, ◌∙◌, arith, le-leb, lt-ltb, le-ltb, ltb-true, ltb-false, leb-true, eq-eqb, ne_eqb, eqb-true}
-use Rattle.std.proofs.Math.Option.{Option, none, some}
+use Rattle.std.specs.Prelude.{ℕ, zero, suc, ◌+◌, ◌*◌, ◌/◌, ◌%◌, ◌<◌, ◌≤◌, Bool, true, false, cond, not, ◌&&◌, List, [], ◌∷◌, ◌++◌, ◌≡◌, refl, eqb, ltb, leb, length}
+use Rattle.std.proofs.Common.{append_assoc, ap, ◌∙◌, arith, le-leb, ltb-true, ltb-false}
+use Rattle.std.proofs.Math.Option.{some}
 use Rattle.std.proofs.lemmas.Bool.{lt-leb}
 use Rattle.page.specs.Words.{hex_digit, hex_of2, flat, each}
 use Rattle.text_words.specs.Words.{is_quote, is_plain}
-use Rattle.text_kinds.specs.Kinds.{within, is_digit, is_hex, hex_value, byte, ends, piece, more, bytes_from, hex_pair, escape, closing, text_of, run_of}
+use Rattle.text_kinds.specs.Kinds.{is_digit, is_hex, hex_value, byte, piece, more, bytes_from, hex_pair, text_of, run_of}
 use Rattle.text_kinds.specs.Gathered.{from_byte, from_ends}
 use Rattle.panel_lines.specs.Lines.{text_byte, quoted}
 

@@ -1,7 +1,7 @@
 -- A line is made of words with one space between them, and its words are these.
-use Rattle.std.specs.Prelude.{ℕ, suc, ◌<◌, Bool, true, false, cond, not, ◌&&◌, List, [], ◌∷◌, ◌++◌, ◌≡◌, refl, length}
-use Rattle.std.proofs.Common.{append-nil, sym, ap, subst, ◌∙◌, arith}
-use Rattle.text_words.specs.Words.{is_blank, is_quote, opens_blank, onto, parts, turned, words_from, words}
+use Rattle.std.specs.Prelude.{ℕ, Bool, true, false, cond, not, ◌&&◌, List, [], ◌∷◌, ◌++◌, ◌≡◌, refl}
+use Rattle.std.proofs.Common.{sym, ap, subst, arith}
+use Rattle.text_words.specs.Words.{is_blank, opens_blank, onto, parts, turned, words_from, words}
 
 -- no byte parts it, and it ends outside of quotes
 unfoldable pub solid_from : Bool → List ℕ → Bool
