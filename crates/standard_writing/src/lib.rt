@@ -1,5 +1,7 @@
 // The block of a standard record: the front, the eight pairs, then slot after slot what the next entries of the four lists make.
 // A list is used up in order: a record whose entries stand otherwise has some left at the end, and is refused.
+#![tactic(auto)]
+
 ghost use Rattle.std.specs.Prelude.{◌≡◌, ℕ, ◌+◌, ◌≤◌, min, List, [], ◌∷◌, ◌++◌, length, take, nat_le, nat_lt};
 ghost use Rattle.std.proofs.Math.Seq.{paste};
 ghost use Rattle.standard_record.specs.Seen.{seen};
