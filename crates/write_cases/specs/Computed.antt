@@ -9,7 +9,6 @@ use Rattle.standard_record.specs.declared.HeldPair.{HeldPair}
 use Rattle.standard_record.specs.declared.Week.{Week}
 use Rattle.standard_record.specs.declared.Week.TheVariants.{Made, ModelYear}
 use Rattle.standard_record.specs.declared.Depth.{Depth}
-use Rattle.standard_record.specs.declared.Depth.TheVariants as Depth
 use Rattle.standard_record.specs.declared.VideoInput.{VideoInput}
 use Rattle.standard_record.specs.declared.VideoInput.TheVariants.{Analog, Digital, Interface}
 use Rattle.standard_record.specs.declared.ImageSize.{ImageSize}
