@@ -116,13 +116,6 @@ module _ (b : List ℕ) (r : StandardRecord) (lent : List ℕ) (g : Gives b r le
       })
   ahead_of (suc i) k e = ahead lent b (said_in b) few_in i k (rest x i) (ahead_of i (suc k) (omega arith))
 
-  inside_rest : (i : ℕ) → SpansInside (rest x i).descriptors (length lent)
-  unfolding rest
-  inside_rest zero = g.inside
-  inside_rest (suc i) =
-      (all_split (λ h. SpanInside h.descriptor (length lent)) (map (held.wrap (i + 1)) (taken x i).descriptors) (rest x (suc i)).descriptors
-      (rw (front x i).descriptors at (inside_rest i))).1
-
   all_unwrapped : (n : ℕ) (ds : List Descriptor) → SpansInside (map (held.wrap n) ds) (length lent) → All (λ d. SpanInside d (length lent)) ds
   all_unwrapped n [] h = tt
   all_unwrapped n (d ∷ ds) h = (h.0, all_unwrapped n ds h.1)
@@ -153,17 +146,24 @@ module _ (b : List ℕ) (r : StandardRecord) (lent : List ℕ) (g : Gives b r le
     pub slot_bytes_lem : Bytes slot
     slot_bytes_lem = part_bytes b (start i) 18 g.bytes
 
-    inside_taken : All (λ d. SpanInside d (length lent)) (taken x i).descriptors
-    inside_taken =
-        all_unwrapped (i + 1) (taken x i).descriptors
-        (all_split (λ h. SpanInside h.descriptor (length lent)) (map (held.wrap (i + 1)) (taken x i).descriptors) (rest x (suc i)).descriptors
-        (rw (front x i).descriptors at (inside_rest i))).0
-
     pub slot_holds : Holds (structure_from x) lent slot (taken x i)
+    unfolding rest
     slot_holds = rw (← same_structure) (record {
       inside = inside_taken;
       reads = record { size = simp (length-take, length-drop) (omega (arith, accepted_has_128 b g.accepted)); shown = shown_later (structure_in b) i slot _ shown_taken };
     })
+      where
+        inside_rest : (i : ℕ) → SpansInside (rest x i).descriptors (length lent)
+        inside_rest zero = g.inside
+        inside_rest (suc i) =
+            (all_split (λ h. SpanInside h.descriptor (length lent)) (map (held.wrap (i + 1)) (taken x i).descriptors) (rest x (suc i)).descriptors
+            (rw (front x i).descriptors at (inside_rest i))).1
+
+        inside_taken : All (λ d. SpanInside d (length lent)) (taken x i).descriptors
+        inside_taken =
+            all_unwrapped (i + 1) (taken x i).descriptors
+            (all_split (λ h. SpanInside h.descriptor (length lent)) (map (held.wrap (i + 1)) (taken x i).descriptors) (rest x (suc i)).descriptors
+            (rw (front x i).descriptors at (inside_rest i))).0
 
   -- the first of them has a timing
   pub first_timing : (d : DetailedTiming) × ((taken x 0).timings ≡ d ∷ [])

@@ -11,7 +11,6 @@ pub mod Every
 pub mod Given
 pub mod Ratios
 pub mod Built
-pub mod Canon
 pub mod Own
 pub mod Promises
 pub mod Dropped

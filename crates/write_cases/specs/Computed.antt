@@ -28,7 +28,7 @@ use Rattle.write_block.specs.Shown.{Shown, shown}
 use Rattle.write_block.specs.Canonical.{block_of}
 use Rattle.write_block.specs.Gives.{SpansInside, Gives, NoneGives}
 use Rattle.write_block.specs.Given.{same}
-use Rattle.write_block.specs.Promises.{refused_if}
+use Rattle.write_block.proofs.Promises.{refused_if}
 
 module _ (r : StandardRecord) (lent : List ℕ) where
   abbrev pub made : List ℕ
