@@ -1,4 +1,6 @@
 // The block of a panel's text.
+#![tactic(auto)]
+
 ghost use Rattle.write_block.specs.Gives.{Written};
 ghost use Rattle.panel_writing.specs.Answer.{Answered};
 
