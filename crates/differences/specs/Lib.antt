@@ -11,5 +11,4 @@ pub mod Kinds
 pub mod Heads
 pub mod Slots
 pub mod Parts
-pub mod Whole
 pub mod Alone

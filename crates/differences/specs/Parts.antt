@@ -1,39 +1,32 @@
--- The parts of a block without a mark, but for the revision's, as the crate reading reads them; and the standard verdict on it.
-use Rattle.std.specs.Prelude.{ℕ, zero, suc, ◌+◌, ◌*◌, ◌<◌, ◌≡◌, refl, true, false, drop}
+-- What is said of the parts of a block without a mark, but for the revision's; that the crate reading reads them so is in proofs/Parts. The standard
+-- verdict on it.
+use Rattle.std.specs.Prelude.{ℕ, zero, suc, ◌+◌, ◌*◌, ◌≡◌, refl, true}
 use Rattle.std.proofs.Math.Path.{sym}
-use Rattle.std.proofs.Common.{subst, ◌∙◌, arith}
+use Rattle.std.proofs.Common.{◌∙◌, arith}
 use mathlib.Core.List.{List, [], ◌∷◌, ◌++◌, map, map-append, map-map, append-nil, append_assoc}
 use Rattle.bits.specs.Bytes.{◌!◌}
 use Rattle.fixed.specs.Gather.{gather}
 use Rattle.fixed.specs.Numbered.{Wrapper, turns}
-use Rattle.steps.specs.Steps.{done, ◌>>=◌, Outcome, got, refused, run, and_then}
+use Rattle.steps.specs.Steps.{done, Outcome, got, refused, run, and_then}
 use Rattle.steps.specs.Laws.{run_bind}
-use Rattle.steps.specs.Leaves.{byte, word}
 use Rattle.crate_record.specs.Seen.{holding}
 use Rattle.crate_record.specs.declared.ManufacturerID.{ManufacturerID}
 use Rattle.crate_record.specs.declared.StandardTiming.{StandardTiming as CratePair}
-use Rattle.crate_head.specs.Head.{maker_of as crateMakerOf, front}
+use Rattle.crate_head.specs.Head.{maker_of as crateMakerOf}
 use Rattle.crate_head.specs.declared.Front.{Front}
-use Rattle.crate_timings.specs.Established.{flags_of as crateFlagsOf, established}
-use Rattle.crate_timings.specs.Pairs.{pairs}
 use Rattle.crate_slots.specs.Slots as crate
 use Rattle.crate_reading.specs.Reading.{Parts, parts, plain as cratePlain, reading, answer}
 use Rattle.standard_record.specs.Held.{held_point, held_pair, held_timing, held}
 use Rattle.standard_record.specs.declared.Verdict.{Verdict}
 use Rattle.standard_record.specs.declared.Verdict.TheVariants.{Accepted, Refused}
-use Rattle.standard_parts.specs.Timings.{flags_of}
-use Rattle.standard_head.specs.Head.{structure_in}
 use Rattle.standard_verdict.specs.Verdict.{refused_at, ◌then◌, is_header, before_slots}
-use Rattle.standard_slots.specs.Said.{refusal, lists}
+use Rattle.standard_slots.specs.Said.{lists}
 use Rattle.standard_reading.specs.Slots.{said_in, judged}
 use Rattle.standard_reading.specs.Block.{flags_in, eight_in, plain}
-use Rattle.marking.specs.Marks.{in_slots}
 use Rattle.differences.specs.Converted.{point_from, pair_from, timing_from, held_from, converted}
-use Rattle.differences.specs.Unmarked.{Block, Clear, NoOffsets, other_fill}
-use Rattle.differences.specs.Along.{Along, along_map, along_then, Came, along, spell}
-use Rattle.differences.specs.Pairs.{PairsRead, pairs_along}
-use Rattle.differences.specs.Heads.{front_from, FrontRead, front_along}
-use Rattle.differences.specs.Slots.{ratios, listed, Accepts, All, LaterRead, slots_along}
+use Rattle.differences.specs.Unmarked.{NoOffsets}
+use Rattle.differences.specs.Heads.{front_from}
+use Rattle.differences.specs.Slots.{listed, Accepts, All}
 
 -- ---- what four slots list
 
@@ -86,7 +79,7 @@ module _ (s : List ℕ) where
   PartsRead p cs n = (is_header s ≡ true) × Accepts s 4 0 × (NoOffsets s → cratePlain p ≡ converted number (plain s)) × (n ≡ 127)
 
   -- the parts, put together
-  plain_agrees : (f : Front) (a : List CratePair) (xs : List crate.Said) → f ≡ front_from s → a ≡ map pair_from (eight_in s) → All s 4 0 xs → NoOffsets s
+  pub plain_agrees : (f : Front) (a : List CratePair) (xs : List crate.Said) → f ≡ front_from s → a ≡ map pair_from (eight_in s) → All s 4 0 xs → NoOffsets s
       → cratePlain (record { front = f; established = flags_in s; eight = a; slots = xs; extensions = s ! 126 }) ≡ converted number (plain s)
   unfolding cratePlain converted
   plain_agrees f a xs h k all still =
@@ -119,34 +112,6 @@ module _ (s : List ℕ) where
         extensions = s ! 126;
       })
 
-module _ (s : List ℕ) (block : Block s) (clear : Clear s) where
-  module _ (F : ℕ → Type 0) (two : is_header s ≡ false → F 2) (refused : (i : ℕ) → i < 4 → (n : ℕ) → said_in s i ≡ refusal n → F n)
-      (filled : in_slots other_fill s ≡ true → F 5) where
-    eight_along : Along (PairsRead (structure_in s) s 38 8 38) F (pairs 8) (drop 38 s) 38
-    eight_along = pairs_along (structure_in s) s F 8 38 38 (omega (arith, block.size)) (λ e. (ratios s block clear e).0)
-
-    -- the slots, and the extension count
-    end_along : (f : Front) (a : List CratePair) → is_header s ≡ true → f ≡ front_from s → a ≡ map pair_from (eight_in s)
-        → Along (PartsRead s) F (crate.slots >>= (λ xs. byte >>= (λ n. done (record { front = f; established = flags_in s; eight = a; slots = xs; extensions = n }))))
-        (drop 54 s) 54
-    unfolding byte
-    end_along f a h e k =
-        along_then _ F crate.slots _ (drop 54 s) 54
-        (along_map (LaterRead s 4 0) F _ crate.slots (drop 54 s) 54
-        (λ xs cs m r. rw (r.2, spell s 126 1 (omega (arith, block.size))) (h, r.0, plain_agrees s f a xs e k r.1, omega (arith, r.3)))
-        (slots_along s block clear F refused filled))
-
-    pub parts_along : Along (PartsRead s) F parts s 0
-    unfolding parts established byte word flags_of crateFlagsOf
-    parts_along =
-        along_then _ F front _ s 0
-        (along_map (FrontRead s) F _ front s 0
-        (λ f cs m r. rw (r.2, r.3, spell s 35 3 (omega (arith, block.size)))
-        (along_then _ F (pairs 8) _ (drop 38 s) 38
-        (along_map (PairsRead (structure_in s) s 38 8 38) F _ (pairs 8) (drop 38 s) 38
-        (λ a ds k q. rw (q.1, q.2) (end_along f a r.0 r.1 q.0)) eight_along)))
-        (front_along s block F two))
-
 -- ---- verdicts
 
 last_accepted : (v : Verdict) → (v then Accepted) ≡ v
@@ -171,9 +136,3 @@ module _ (s : List ℕ) where
 
 pub not_refused : {A : Type 0} (n at : ℕ) → refused_at n at ≡ Accepted → A
 not_refused n at e = let z : ◌≡◌ {A = ℕ} 0 1 = cc in absurd (omega arith)
-
-module _ (s : List ℕ) (block : Block s) (clear : Clear s) where
-  pub read_parts : (p : Parts) (n : ℕ) → run parts s 0 ≡ got p n → PartsRead s p (drop n s) n
-  read_parts p n e =
-      subst (Came s (PartsRead s) (λ k. Unit {0})) e
-      (along (PartsRead s) (λ k. Unit {0}) parts s 0 (parts_along s block clear (λ k. Unit {0}) (λ h. tt) (λ i l k h. tt) (λ h. tt)))

@@ -1,4 +1,4 @@
 #![tactic(auto)]
 
-// Where the two readings part, by proof and by computation: without a mark nowhere (specs/Whole.antt), with each mark somewhere (specs/Alone.antt).
+// Where the two readings part, by proof and by computation: without a mark nowhere (proofs/Whole.antt), with each mark somewhere (specs/Alone.antt).
 // There is no code here.

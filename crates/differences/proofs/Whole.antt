@@ -25,7 +25,8 @@ use Rattle.demands.specs.Standard as standard-demands
 use Rattle.differences.specs.Converted.{converted}
 use Rattle.differences.specs.Unmarked.{Block, Clear, Unmarked, NoOffsets, other_fill, Agree}
 use Rattle.differences.specs.Along.{Came, along}
-use Rattle.differences.specs.Parts.{number, PartsRead, parts_along, judged_slots, refused_parts, not_refused, read_parts}
+use Rattle.differences.specs.Parts.{number, PartsRead, judged_slots, refused_parts, not_refused}
+use Rattle.differences.proofs.Parts.{parts_along, read_parts}
 
 module _ (s : List ℕ) (block : Block s) (clear : Clear s) where
   -- where both readings accept it, the two records agree, unless offsets are added to range limits
