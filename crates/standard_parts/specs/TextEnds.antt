@@ -9,23 +9,22 @@ pub record TextEnds (bs : List ℕ) : Type 0 where
   pub clean : (i : ℕ) → i < text_length bs → get_or bs i 0 ≡ 0x0a → ⊥
   pub behind : text_length bs < length bs → get_or bs (text_length bs) 0 ≡ 0x0a
 
-module _ (b : ℕ) (bs : List ℕ) where
-  -- here, or further on
-  stops : eqb b 0x0a ≡ true → TextEnds (b ∷ bs)
-  stops p =
-      record { short = rw p (omega arith); clean = λ i h. absurd (omega (arith, rw p at h)); behind = rw p (λ h. eqb-true b 0x0a p) }
-
-  goes_on : eqb b 0x0a ≡ false → TextEnds bs → TextEnds (b ∷ bs)
-  goes_on p q = record { short = rw p (omega (arith, q.short)); clean = clean; behind = rw p (λ h. q.behind (omega arith)) }
-    where
-      clean : (i : ℕ) → i < text_length (b ∷ bs) → get_or (b ∷ bs) i 0 ≡ 0x0a → ⊥
-      clean zero h e = eqb-false b 0x0a p e
-      clean (suc i) h e = q.clean i (omega (arith, rw p at h)) e
-
 pub text_ends : (bs : List ℕ) → TextEnds bs
 text_ends [] = record { short = omega arith; clean = λ i h. absurd (omega arith); behind = λ h. absurd (omega arith) }
 text_ends (b ∷ bs) = go (eqb b 0x0a) refl (text_ends bs)
   where
+    -- here, or further on
+    stops : eqb b 0x0a ≡ true → TextEnds (b ∷ bs)
+    stops p =
+        record { short = rw p (omega arith); clean = λ i h. absurd (omega (arith, rw p at h)); behind = rw p (λ h. eqb-true b 0x0a p) }
+
+    clean_on : eqb b 0x0a ≡ false → TextEnds bs → (i : ℕ) → i < text_length (b ∷ bs) → get_or (b ∷ bs) i 0 ≡ 0x0a → ⊥
+    clean_on p q zero h e = eqb-false b 0x0a p e
+    clean_on p q (suc i) h e = q.clean i (omega (arith, rw p at h)) e
+
+    goes_on : eqb b 0x0a ≡ false → TextEnds bs → TextEnds (b ∷ bs)
+    goes_on p q = record { short = rw p (omega (arith, q.short)); clean = clean_on p q; behind = rw p (λ h. q.behind (omega arith)) }
+
     go : (t : Bool) → eqb b 0x0a ≡ t → TextEnds bs → TextEnds (b ∷ bs)
-    go true p q = stops b bs p
-    go false p q = goes_on b bs p q
+    go true p q = stops p
+    go false p q = goes_on p q

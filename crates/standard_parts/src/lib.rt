@@ -41,6 +41,7 @@ pub enum Point {
     Listed(WhitePoint),
 }
 
+#[tactic(auto, using(std::proofs::lemmas::Bool::Decides::nat_tests))]
 pub fn structure_of(revision: u8) -> Structure
     ensures { result ≡ structure_of revision }
 {

@@ -15,7 +15,8 @@ use Rattle.standard_verdict.specs.Verdict.{before_slots}
 use Rattle.standard_verdict.specs.Laws.{then_first, then_second, has_128, Bounded, then_bounded, bounded_before}
 use Rattle.standard_slots.specs.Said.{lists}
 use Rattle.standard_slots.specs.Each.{each}
-use Rattle.standard_slots.specs.Spans.{Sounds, sounds_append, sound_slot}
+use Rattle.standard_slots.specs.Spans.{Sounds, sounds_append}
+use Rattle.standard_slots.proofs.Spans.{sound_slot}
 use Rattle.standard_reading.specs.Slots.{start, said_in, judge, judged, verdict_of}
 use Rattle.standard_reading.specs.Block.{descriptors_of, record_of, beside, standard_of}
 

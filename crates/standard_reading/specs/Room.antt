@@ -13,7 +13,8 @@ use Rattle.standard_record.specs.Seen.{holding, Fits}
 use Rattle.standard_parts.specs.Timings.{flags_of}
 use Rattle.standard_head.specs.Head.{structure_in}
 use Rattle.standard_slots.specs.Said.{lists}
-use Rattle.standard_slots.specs.Few.{Few, few, NoneButTimings, first_slot, pairs_at_most}
+use Rattle.standard_slots.specs.Few.{Few, NoneButTimings, first_slot, pairs_at_most}
+use Rattle.standard_slots.proofs.Few.{few}
 use Rattle.standard_reading.specs.Slots.{start, said_in}
 use Rattle.standard_reading.specs.Block.{timings_of, eight_in, pairs_of, points_of, descriptors_of, plain, record_of, beside, standard_of}
 use Rattle.standard_reading.specs.Judged.{end_is_verdict}

@@ -19,21 +19,21 @@ module _ (σ τ : Structure) (t : List ℕ) (at n : ℕ) where
       go true e = passed e
       go false e = e
 
-  by_tag_lem : (tag : Tag) → by_tag σ tag t at ≡ refusal n → by_tag τ tag t at ≡ refusal n
-  by_tag_lem Tag.Pairs = behind (closing_refusal (t ! 17) true) (pairs (pairs_in σ t)) (pairs (pairs_in τ t)) (λ e. cc)
-  by_tag_lem Tag.Range =
-      behind (range_refusal (t ! 10) (t ! 11) (all_spaces (part t 12 6))) (described (range_in σ t at)) (described (range_in τ t at)) (λ e. cc)
-  by_tag_lem Tag.Dummy = λ e. e
-  by_tag_lem Tag.Points = λ e. e
-  by_tag_lem Tag.Name = λ e. e
-  by_tag_lem Tag.Text = λ e. e
-  by_tag_lem Tag.Serial = λ e. e
-  by_tag_lem Tag.Raw = λ e. e
-
   pub refused_alike : (i : ℕ) → said σ i t at ≡ refusal n → said τ i t at ≡ refusal n
   unfolding said
   refused_alike i = go (eqb (clock_in t) 0) (eqb i 0)
     where
+      by_tag_lem : (tag : Tag) → by_tag σ tag t at ≡ refusal n → by_tag τ tag t at ≡ refusal n
+      by_tag_lem Tag.Pairs = behind (closing_refusal (t ! 17) true) (pairs (pairs_in σ t)) (pairs (pairs_in τ t)) (λ e. cc)
+      by_tag_lem Tag.Range =
+          behind (range_refusal (t ! 10) (t ! 11) (all_spaces (part t 12 6))) (described (range_in σ t at)) (described (range_in τ t at)) (λ e. cc)
+      by_tag_lem Tag.Dummy = λ e. e
+      by_tag_lem Tag.Points = λ e. e
+      by_tag_lem Tag.Name = λ e. e
+      by_tag_lem Tag.Text = λ e. e
+      by_tag_lem Tag.Serial = λ e. e
+      by_tag_lem Tag.Raw = λ e. e
+
       go : (clockless first : Bool) → cond clockless (cond first (refusal 3) (by_tag σ (tag_of (t ! 3)) t at)) (of_timed (timing_in t)) ≡ refusal n
           → cond clockless (cond first (refusal 3) (by_tag τ (tag_of (t ! 3)) t at)) (of_timed (timing_in t)) ≡ refusal n
       go true true e = e

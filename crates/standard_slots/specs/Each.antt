@@ -49,16 +49,6 @@ module _ (P : Said → Type 0) (σ : Structure) (t : List ℕ) (at : ℕ) (e : E
       either (Behind x) (eqb kind 0) (closing x b spaces h)
       (either (Behind x) (eqb kind 2) (either (Behind x) (eqb b 0) h (e.refused 4 (omega arith) (omega arith))) h)
 
-  by_tag_lem : (tag : Tag) → P (by_tag σ tag t at)
-  by_tag_lem Tag.Dummy = e.none
-  by_tag_lem Tag.Pairs = closing (pairs (pairs_in σ t)) (t ! 17) true e.listed
-  by_tag_lem Tag.Points = closing (points (points_in t)) (t ! 15) (all_spaces (part t 16 2)) e.pointed
-  by_tag_lem Tag.Name = padding (described (Descriptor.Name (text_in t at))) (is_padded (part t 5 13) (text_in t at).len) e.name
-  by_tag_lem Tag.Range = ranges (described (range_in σ t at)) (t ! 10) (t ! 11) (all_spaces (part t 12 6)) e.range
-  by_tag_lem Tag.Text = padding (described (Descriptor.Text (text_in t at))) (is_padded (part t 5 13) (text_in t at).len) e.text
-  by_tag_lem Tag.Serial = padding (described (Descriptor.Serial (text_in t at))) (is_padded (part t 5 13) (text_in t at).len) e.serial
-  by_tag_lem Tag.Raw = e.raw
-
   by_timing : (x : Timed) → P (of_timed x)
   by_timing (Timed.Is d) = e.timed d
   by_timing Timed.Over = e.refused 6 (omega arith) (omega arith)
@@ -68,3 +58,13 @@ module _ (P : Said → Type 0) (σ : Structure) (t : List ℕ) (at : ℕ) (e : E
   each i =
       either P (eqb (clock_in t) 0) (either P (eqb i 0) (e.refused 3 (omega arith) (omega arith)) (by_tag_lem (tag_of (t ! 3))))
       (by_timing (timing_in t))
+    where
+      by_tag_lem : (tag : Tag) → P (by_tag σ tag t at)
+      by_tag_lem Tag.Dummy = e.none
+      by_tag_lem Tag.Pairs = closing (pairs (pairs_in σ t)) (t ! 17) true e.listed
+      by_tag_lem Tag.Points = closing (points (points_in t)) (t ! 15) (all_spaces (part t 16 2)) e.pointed
+      by_tag_lem Tag.Name = padding (described (Descriptor.Name (text_in t at))) (is_padded (part t 5 13) (text_in t at).len) e.name
+      by_tag_lem Tag.Range = ranges (described (range_in σ t at)) (t ! 10) (t ! 11) (all_spaces (part t 12 6)) e.range
+      by_tag_lem Tag.Text = padding (described (Descriptor.Text (text_in t at))) (is_padded (part t 5 13) (text_in t at).len) e.text
+      by_tag_lem Tag.Serial = padding (described (Descriptor.Serial (text_in t at))) (is_padded (part t 5 13) (text_in t at).len) e.serial
+      by_tag_lem Tag.Raw = e.raw

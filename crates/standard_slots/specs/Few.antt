@@ -9,8 +9,7 @@ use Rattle.standard_parts.specs.Timings.{pair_of}
 use Rattle.standard_parts.specs.declared.Structure.{Structure}
 use Rattle.standard_parts.specs.declared.Pair.{Pair}
 use Rattle.standard_parts.specs.declared.Point.{Point}
-use Rattle.standard_slots.specs.Said.{Said, refusal, nothing, timing, pairs, points, described, Lists, lists, of_pair, pair_at, pairs_at, of_point, point_at, of_timed, said}
-use Rattle.standard_slots.specs.Each.{each}
+use Rattle.standard_slots.specs.Said.{Said, refusal, nothing, timing, pairs, points, described, Lists, lists, of_pair, pair_at, pairs_at, of_point, of_timed, said}
 
 -- no more than this
 pub record Few (x : Said) : Type 0 where
@@ -34,25 +33,8 @@ point_at_most : (p : Point) → length (of_point p) ≤ 1
 point_at_most (Point.Listed v) = omega arith
 point_at_most Point.Skipped = omega arith
 
-points_at_most : (p q : Point) → length (of_point p ++ of_point q) ≤ 2
+pub points_at_most : (p q : Point) → length (of_point p ++ of_point q) ≤ 2
 points_at_most p q = omega (arith, length-append (of_point p) (of_point q), point_at_most p, point_at_most q)
-
--- ---- the slot
-
-pub few : (σ : Structure) (i : ℕ) (t : List ℕ) (at : ℕ) → Few (said σ i t at)
-few σ i t at =
-    each Few σ t at (record {
-      refused = λ n h k. omega arith;
-      none = omega arith;
-      timed = λ d. omega arith;
-      listed = omega (arith, pairs_at_most σ t 5 6);
-      pointed = omega (arith, points_at_most (point_at t 5) (point_at t 10));
-      name = omega arith;
-      text = omega arith;
-      serial = omega arith;
-      range = omega arith;
-      raw = omega arith;
-    }) i
 
 -- ---- a slot feeds one list at most
 

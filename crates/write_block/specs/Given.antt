@@ -19,7 +19,8 @@ use Rattle.standard_verdict.specs.Laws.{has_header, has_version}
 use Rattle.standard_parts.specs.Structure.{structure_of}
 use Rattle.standard_parts.specs.declared.Structure.{Structure}
 use Rattle.standard_slots.specs.Said.{Said, refusal, nothing, timing, pairs, points, described, lists, said}
-use Rattle.standard_slots.specs.Few.{Few, few, pairs_at_most}
+use Rattle.standard_slots.specs.Few.{Few, pairs_at_most}
+use Rattle.standard_slots.proofs.Few.{few}
 use Rattle.standard_reading.specs.Slots.{start, said_in, judge}
 use Rattle.standard_reading.specs.Block.{eight_in, plain}
 use Rattle.standard_reading.specs.Judged.{accepted_before, accepted_slot, accepted_has_128}

@@ -2,7 +2,7 @@
 use mathlib.Core.Path.{refl, sym, ◌∙◌, ap₂}
 use mathlib.Core.Bool.{◌||◌}
 use borrow.Author.Rules.{rules}
-use borrow.Author.Tests.{ne_eqb, not-true}
+use borrow.Author.Tests.{ne_eqb}
 use Rattle.standard_parts.proofs.Laws.{every_not, every_end}
 use Rattle.standard_parts.proofs.spaces_or.Goals as goal
 
