@@ -17,6 +17,9 @@ const BATCH: usize = 248;
 // A proved loop has to end, and nothing says that the input does: it counts to a number of records that no file has.
 const MOST: u64 = 9223372036854775808;
 
+// The system's number for a file that is not open, EBADF.
+const NOT_OPEN: i32 = 9;
+
 // From the short form to the long one, or back.
 #[derive(Clone, Copy)]
 pub enum Way {
@@ -230,7 +233,10 @@ fn tell<E: Eprint>(errors: &E, end: End) {
 pub fn convert(rt: &HostRuntime, way: Way) {
     let end = convert_all(&mut rt.stdin(), &mut rt.stdout(), way);
     tell(rt, end);
-    if rt.stdout().as_fd().try_clone_to_owned().is_err() {
-        let _ = eprintln!(rt; "close failed");
+    match rt.stdout().as_fd().try_clone_to_owned() {
+        Err(e) if e.raw_os_error() == Some(NOT_OPEN) => {
+            let _ = eprintln!(rt; "close failed");
+        }
+        _ => {}
     }
 }
