@@ -24,9 +24,9 @@ use Rattle.bursts.proofs.Theorems.{joined}
 use contract.Lifetimes.{Lfts}
 use Rattle.std.specs.Borrow.{Bor, MutBor}
 use Rattle.bursts.proofs.finish.Reads as finish
-use Rattle.exports.proofs.edid_burst.Reads as edid-burst
-use Rattle.exports.proofs.edid_burst_number.Reads as burst-number
-use Rattle.exports.proofs.edid_burst_taken.Reads as burst-taken
+use Rattle.exports.proofs.edid_burst.Reads as edid_burst
+use Rattle.exports.proofs.edid_burst_number.Reads as burst_number
+use Rattle.exports.proofs.edid_burst_taken.Reads as burst_taken
 use Rattle.exports.specs.Numbers.{number_of, number_told}
 use Rattle.demands.specs.Specimen.{specimen}
 use Rattle.demands.specs.Cases.{longest}
@@ -37,17 +37,17 @@ use Rattle.demands.specs.Cases.{longest}
 abbrev pub Burst : List ℕ → List ℕ → ℕ → List ℕ → Type 0
 Burst s b r t =
     (κs : Lfts 2) × (before : MutBor (List ℕ)) × (burst : Bor (List ℕ)) × (later : MutBor (List ℕ)) × (before.now ≡ s) × (burst.now ≡ b) × (later.now ≡ t)
-    × edid-burst.Asked κs (before, (burst, tt)) × edid-burst.Learnt κs (before, (burst, tt)) r (later, (burst, tt))
+    × edid_burst.Asked κs (before, (burst, tt)) × edid_burst.Learnt κs (before, (burst, tt)) r (later, (burst, tt))
 
 -- and at the end of `edid_burst_number` and `edid_burst_taken`
 abbrev AtEnd : (Lfts 1 → Bor (List ℕ) × Unit {0} → Type 0) → (Lfts 1 → Bor (List ℕ) × Unit {0} → ℕ → Bor (List ℕ) × Unit {0} → Type 0) → List ℕ → ℕ → Type 0
 AtEnd asked learnt s r = (κs : Lfts 1) × (state : Bor (List ℕ)) × (state.now ≡ s) × asked κs (state, tt) × learnt κs (state, tt) r (state, tt)
 
 abbrev pub Number : List ℕ → ℕ → Type 0
-Number = AtEnd burst-number.Asked burst-number.Learnt
+Number = AtEnd burst_number.Asked burst_number.Learnt
 
 abbrev pub Taken : List ℕ → ℕ → Type 0
-Taken = AtEnd burst-taken.Asked burst-taken.Learnt
+Taken = AtEnd burst_taken.Asked burst_taken.Learnt
 
 -- zeros that were handed these bursts, one call after the other, became the state t
 pub data Calls : List (List ℕ) → List ℕ → Type 0 where
@@ -78,10 +78,10 @@ told_number (got a n) = refl
 told_number (refused k n) = refl
 
 -- nothing is asked of a caller
-pub asked : (κs : Lfts 2) (state : MutBor (List ℕ)) (burst : Bor (List ℕ)) → edid-burst.Asked κs (state, (burst, tt))
+pub asked : (κs : Lfts 2) (state : MutBor (List ℕ)) (burst : Bor (List ℕ)) → edid_burst.Asked κs (state, (burst, tt))
 asked κs state burst = tt
 
-pub asked_at_end : (κs : Lfts 1) (state : Bor (List ℕ)) → burst-number.Asked κs (state, tt) × burst-taken.Asked κs (state, tt)
+pub asked_at_end : (κs : Lfts 1) (state : Bor (List ℕ)) → burst_number.Asked κs (state, tt) × burst_taken.Asked κs (state, tt)
 asked_at_end κs state = (tt, tt)
 
 -- and in Rattle, with the record, to the last field

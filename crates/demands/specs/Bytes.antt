@@ -25,8 +25,8 @@ use Rattle.crate_reading.specs.Reading.{Parts, parts, reading, answer}
 use Rattle.crate_reading.specs.Sizes.{tens, longs, at_most_three}
 use Rattle.exports.specs.Numbers.{number_of, zero_is_accepted}
 use Rattle.crate_reading.proofs.read.Reads as read
-use Rattle.exports.proofs.edid_refusal_number.Reads as refusal-number
-use Rattle.exports.proofs.edid_bytes_taken.Reads as bytes-taken
+use Rattle.exports.proofs.edid_refusal_number.Reads as refusal_number
+use Rattle.exports.proofs.edid_bytes_taken.Reads as bytes_taken
 use Rattle.demands.specs.Specimen.{specimen}
 use Rattle.demands.specs.Cases.{tag_10, tag_fb, long_fb, laid}
 use Rattle.demands.specs.Demands.{cut_is_out_of_data, same_bytes_same_answer, Exact, exact_bytes}
@@ -42,10 +42,10 @@ read_exactly κs block r n l e = exact_bytes block.now r.edid n (sym l.answer �
 
 -- what the exported functions answer of the bytes s, by their contracts
 abbrev pub RefusalNumber : List ℕ → ℕ → Type 0
-RefusalNumber = Answers refusal-number.Asked refusal-number.Learnt
+RefusalNumber = Answers refusal_number.Asked refusal_number.Learnt
 
 abbrev pub BytesTaken : List ℕ → ℕ → Type 0
-BytesTaken = Answers bytes-taken.Asked bytes-taken.Learnt
+BytesTaken = Answers bytes_taken.Asked bytes_taken.Learnt
 
 pub answered : (s : List ℕ) → RefusalNumber s (number_of (answer s)) × BytesTaken s (taken (answer s))
 answered s = let slice : Bor (List ℕ) = record { ref_ptr = (0, 0); now = s } in ((([], tt), slice, refl, tt, refl), (([], tt), slice, refl, tt, refl))

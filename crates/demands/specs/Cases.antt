@@ -8,7 +8,7 @@ use Rattle.crate_record.specs.Single.{f0, f1}
 use Rattle.crate_record.specs.declared.EDID.{EDID}
 use Rattle.crate_record.specs.declared.WhitePoint.{WhitePoint}
 use Rattle.crate_head.specs.Head.{header, maker, date, product, version, input_of, input, size_of, gamma_from, dpms_of, dpms, display, color, front}
-use Rattle.crate_timings.specs.Established.{flags_of as flagsBy, established}
+use Rattle.crate_timings.specs.Established.{flags_of as flags_by, established}
 use Rattle.crate_timings.specs.Pairs.{standard_timing_of, pair_of, pair, pairs}
 use Rattle.crate_text.specs.Text.{scan, padding, skip, span, text}
 use Rattle.crate_detailed.specs.Detailed.{sync_of, fitted, axes, timing_of, timed, detailed}
@@ -25,9 +25,9 @@ use Rattle.standard_record.specs.declared.DisplayType.TheVariants.{Monochrome, O
 use Rattle.standard_record.specs.declared.Kind.TheVariants.{Typed, Encodings}
 use Rattle.standard_record.specs.declared.StandardReading.{StandardReading}
 use Rattle.standard_timing.specs.Timing.{timing_in}
-use Rattle.standard_parts.specs.Head.{input_of as inputBy, image_of, gamma_of, features_of}
-use Rattle.standard_parts.specs.Color.{point_of as pointBy}
-use Rattle.standard_parts.specs.Timings.{flags_of, pair_of as pairBy}
+use Rattle.standard_parts.specs.Head.{input_of as input_by, image_of, gamma_of, features_of}
+use Rattle.standard_parts.specs.Color.{point_of as point_by}
+use Rattle.standard_parts.specs.Timings.{flags_of, pair_of as pair_by}
 use Rattle.standard_parts.specs.Descriptors.{limits_of, secondary_of, closing_refusal, range_refusal}
 use Rattle.standard_head.specs.Head.{product_in, colors_in}
 use Rattle.standard_verdict.specs.Verdict.{before_slots}
@@ -148,5 +148,5 @@ cases =
     standard_reads (high_limits 4 0x88) (limits_show (new 4) (rates 256 510 510 510) (rates 0 255 255 255) (rates 255 255 0 255)) ∷ []
 
 pub cases_hold : Hold cases
-unfolding cases shortest longest six full_block range_block two_timings ratio_block head_block limits_block showing specimen_shows full_shows range_shows two_show ratio_shows head_shows limits_show specimen lobby specimen_of named byte word long header maker date product version input_of input size_of gamma_from dpms_of dpms display color front flagsBy established standard_timing_of pair_of pair pairs scan padding skip span text sync_of fitted axes timing_of timed detailed spaces closing point_of point ended second points white string_of string raw_of raw tagged descriptor later slots parts plain reading tag_of standard_of before_slots judged record_of said point_at range_in timing_in product_in colors_in inputBy image_of gamma_of features_of pointBy flags_of pairBy limits_of secondary_of closing_refusal range_refusal blank back_porch across_of down_of of_bits of_int add div
+unfolding cases shortest longest six full_block range_block two_timings ratio_block head_block limits_block showing specimen_shows full_shows range_shows two_show ratio_shows head_shows limits_show specimen lobby specimen_of named byte word long header maker date product version input_of input size_of gamma_from dpms_of dpms display color front flags_by established standard_timing_of pair_of pair pairs scan padding skip span text sync_of fitted axes timing_of timed detailed spaces closing point_of point ended second points white string_of string raw_of raw tagged descriptor later slots parts plain reading tag_of standard_of before_slots judged record_of said point_at range_in timing_in product_in colors_in input_by image_of gamma_of features_of point_by flags_of pair_by limits_of secondary_of closing_refusal range_refusal blank back_porch across_of down_of of_bits of_int add div
 cases_hold = (refl, (refl, (refl, (refl, (refl, (refl, (refl, (refl, (refl, (refl, (refl, (refl, (refl, (refl, (refl, (refl, (refl, (refl, (refl, (refl, (refl, (refl, (refl, (refl, (refl, (refl, (refl, (refl, (refl, (refl, (refl, (refl, (refl, (refl, (refl, (refl, (refl, (refl, (refl, (refl, (refl, (refl, (refl, (refl, (refl, (refl, (refl, (refl, (refl, (refl, (refl, (refl, (refl, (refl, tt))))))))))))))))))))))))))))))))))))))))))))))))))))))

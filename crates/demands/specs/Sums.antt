@@ -7,8 +7,8 @@ use Rattle.std.specs.Borrow.{Bor}
 use Rattle.sums.specs.Sum.{byte_sum}
 use Rattle.sums.specs.Joined.{plus, minus, checksum, empty, joined, checksum_makes_zero}
 use Rattle.sums.proofs.Joined.{shifted, sum_of_parts}
-use Rattle.sums.proofs.byte_sum.Reads as byte-sum
-use Rattle.exports.proofs.edid_sum_is_zero.Reads as sum-is-zero
+use Rattle.sums.proofs.byte_sum.Reads as byte_sum_call
+use Rattle.exports.proofs.edid_sum_is_zero.Reads as sum_is_zero
 use Rattle.demands.specs.Specimen.{specimen}
 
 -- one slice, as a call is handed it
@@ -20,10 +20,10 @@ abbrev pub Answers : {R : Type 0} → (Lfts 1 → Slice → Type 0) → (Lfts 1 
 Answers asked learnt s r = (κs : Lfts 1) × (slice : Bor (List ℕ)) × (slice.now ≡ s) × asked κs (slice, tt) × learnt κs (slice, tt) r (slice, tt)
 
 abbrev pub ByteSum : List ℕ → ℕ → Type 0
-ByteSum = Answers byte-sum.Asked byte-sum.Learnt
+ByteSum = Answers byte_sum_call.Asked byte_sum_call.Learnt
 
 abbrev pub SumIsZero : List ℕ → Bool → Type 0
-SumIsZero = Answers sum-is-zero.Asked sum-is-zero.Learnt
+SumIsZero = Answers sum_is_zero.Asked sum_is_zero.Learnt
 
 -- of every list there are such answers, and no others than these
 pub answered : (s : List ℕ) → ByteSum s (byte_sum s) × SumIsZero s (eqb (byte_sum s) 0)

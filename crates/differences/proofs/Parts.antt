@@ -7,7 +7,7 @@ use Rattle.steps.specs.Leaves.{byte, word}
 use Rattle.crate_record.specs.declared.StandardTiming.{StandardTiming as CratePair}
 use Rattle.crate_head.specs.Head.{front}
 use Rattle.crate_head.specs.declared.Front.{Front}
-use Rattle.crate_timings.specs.Established.{flags_of as crateFlagsOf, established}
+use Rattle.crate_timings.specs.Established.{flags_of as crate_flags_of, established}
 use Rattle.crate_timings.specs.Pairs.{pairs}
 use Rattle.crate_slots.specs.Slots as crate
 use Rattle.crate_reading.specs.Reading.{Parts, parts}
@@ -45,7 +45,7 @@ module _ (s : List ℕ) (block : Block s) (clear : Clear s) where
         (slots_along s block clear F refused filled))
 
     pub parts_along : Along (PartsRead s) F parts s 0
-    unfolding parts established byte word flags_of crateFlagsOf
+    unfolding parts established byte word flags_of crate_flags_of
     parts_along =
         along_then _ F front _ s 0
         (along_map (FrontRead s) F _ front s 0

@@ -10,7 +10,7 @@ use Rattle.crate_record.specs.Seen.{seen}
 use Rattle.crate_record.specs.declared.EDID.{EDID}
 use Rattle.crate_reading.specs.Reading.{parts, answer}
 use Rattle.crate_reading.specs.Sizes.{parts_of}
-use Rattle.standard_record.specs.Seen.{seen as standardSeen}
+use Rattle.standard_record.specs.Seen.{seen as standard_seen}
 use Rattle.standard_record.specs.declared.Verdict.TheVariants.{Accepted}
 use Rattle.sums.specs.Sum.{byte_sum}
 use Rattle.standard_verdict.specs.Laws.{has_header}
@@ -20,8 +20,8 @@ use Rattle.standard_reading.specs.Slots.{start, judge}
 use Rattle.standard_reading.specs.Block.{standard_of}
 use Rattle.standard_reading.specs.Judged.{end_is_verdict, accepted_before, accepted_slot}
 use Rattle.marking.specs.Marks.{in_slots, marks_in}
-use Rattle.demands.specs.Demands as crate-demands
-use Rattle.demands.specs.Standard as standard-demands
+use Rattle.demands.specs.Demands as crate_demands
+use Rattle.demands.specs.Standard as standard_demands
 use Rattle.differences.specs.Converted.{converted}
 use Rattle.differences.specs.Unmarked.{Block, Clear, Unmarked, NoOffsets, other_fill, Agree}
 use Rattle.differences.specs.Along.{Came, along}
@@ -30,16 +30,16 @@ use Rattle.differences.proofs.Parts.{parts_along, read_parts}
 
 module _ (s : List ℕ) (block : Block s) (clear : Clear s) where
   -- where both readings accept it, the two records agree, unless offsets are added to range limits
-  pub offsets_apart : NoOffsets s → (e : EDID) (n : ℕ) → answer s ≡ got e n → (standard_of s).end ≡ Accepted → Agree s (seen e) (standardSeen (standard_of s).edid)
+  pub offsets_apart : NoOffsets s → (e : EDID) (n : ℕ) → answer s ≡ got e n → (standard_of s).end ≡ Accepted → Agree s (seen e) (standard_seen (standard_of s).edid)
   unfolding converted product_in
   offsets_apart still e n h a =
-      let q = crate-demands.nothing_dropped s e n h in
-      let whole = standard-demands.nothing_dropped s a in
+      let q = crate_demands.nothing_dropped s e n h in
+      let whole = standard_demands.nothing_dropped s a in
       let shown = q.2 ∙ (read_parts s block clear q.0 n q.1).2 still ∙ ap (converted (number s)) (sym whole) in
       let maker = ap (λ x. x.product.maker) shown in
       record {
         maker = record { crate = maker; standard = ap (λ x. x.product.maker) whole };
-        rest = shown ∙ ap (λ m. converted m (standardSeen (standard_of s).edid)) (sym maker);
+        rest = shown ∙ ap (λ m. converted m (standard_seen (standard_of s).edid)) (sym maker);
       }
 
   -- the crate reading takes 127 bytes
@@ -74,6 +74,6 @@ module _ (s : List ℕ) (block : Block s) (clear : Clear s) where
 
 -- so it is of a block without a mark
 pub differences_are_whole : (s : List ℕ) → Block s → Unmarked s → (e : EDID) (n : ℕ) → answer s ≡ got e n → (standard_of s).end ≡ Accepted
-    → Agree s (seen e) (standardSeen (standard_of s).edid)
+    → Agree s (seen e) (standard_seen (standard_of s).edid)
 unfolding marks_in
 differences_are_whole s block unmarked = offsets_apart s block unmarked.clear (rw unmarked.revision)

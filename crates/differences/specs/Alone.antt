@@ -10,20 +10,20 @@ use Rattle.steps.specs.Answers.{taken}
 use Rattle.steps.specs.Leaves.{byte, word, long}
 use Rattle.timing.specs.Axis.{back_porch, across_of, down_of}
 use Rattle.tags.specs.Tags.{tag_of}
-use Rattle.crate_record.specs.Filler.{blank as crateBlank}
+use Rattle.crate_record.specs.Filler.{blank as crate_blank}
 use Rattle.crate_record.specs.Seen.{Seen as CrateSeen, seen}
-use Rattle.crate_record.specs.Single.{gamma_of as crateGammaOf}
+use Rattle.crate_record.specs.Single.{gamma_of as crate_gamma_of}
 use Rattle.crate_record.specs.declared.EDID.{EDID}
 use Rattle.crate_record.specs.declared.MonitorDescriptor.{MonitorDescriptor}
-use Rattle.crate_head.specs.Head.{header, maker, date, product, version, input_of as crateInputOf, input, size_of, gamma_from as crateGammaFrom, dpms_of, dpms, display, color, front}
+use Rattle.crate_head.specs.Head.{header, maker, date, product, version, input_of as crate_input_of, input, size_of, gamma_from as crate_gamma_from, dpms_of, dpms, display, color, front}
 use Rattle.crate_text.specs.Text.{scan, padding, skip, span, text}
-use Rattle.crate_descriptors.specs.Descriptors.{spaces, closing, point_of as cratePointOf, point, ended, second, points, white, string_of, string, raw_of, raw, limits_of as crateLimitsOf, none, gtf_of, gtf, other, secondary, range, tagged, descriptor}
-use Rattle.crate_timings.specs.Established.{flags_of as crateFlagsOf, established}
-use Rattle.crate_timings.specs.Pairs.{standard_timing_of, pair_of as cratePairOf, pair, pairs}
-use Rattle.crate_detailed.specs.Detailed.{sync_of as crateSyncOf, fitted, axes, timing_of, timed, detailed}
+use Rattle.crate_descriptors.specs.Descriptors.{spaces, closing, point_of as crate_point_of, point, ended, second, points, white, string_of, string, raw_of, raw, limits_of as crate_limits_of, none, gtf_of, gtf, other, secondary, range, tagged, descriptor}
+use Rattle.crate_timings.specs.Established.{flags_of as crate_flags_of, established}
+use Rattle.crate_timings.specs.Pairs.{standard_timing_of, pair_of as crate_pair_of, pair, pairs}
+use Rattle.crate_detailed.specs.Detailed.{sync_of as crate_sync_of, fitted, axes, timing_of, timed, detailed}
 use Rattle.crate_slots.specs.Slots.{later, slots}
-use Rattle.crate_reading.specs.Reading.{answer, parts, plain as cratePlain, reading}
-use Rattle.standard_record.specs.Seen.{seen as standardSeen}
+use Rattle.crate_reading.specs.Reading.{answer, parts, plain as crate_plain, reading}
+use Rattle.standard_record.specs.Seen.{seen as standard_seen}
 use Rattle.standard_record.specs.declared.Gamma.{Gamma}
 use Rattle.standard_record.specs.declared.Verdict.TheVariants.{Accepted}
 use Rattle.standard_record.specs.Filler.{blank}
@@ -55,14 +55,14 @@ pub record Parting (s : List ℕ) (marks : Marks) : Type 0 where
   pub bytes : ℕ
   pub answered : answer s ≡ got crate bytes
   pub accepted : (standard_of s).end ≡ Accepted
-  pub apart : Agree s (seen crate) (standardSeen (standard_of s).edid) → ⊥
+  pub apart : Agree s (seen crate) (standard_seen (standard_of s).edid) → ⊥
 
 -- ---- by computation
 
 -- the record of an answer
 abbrev record_in : Outcome EDID → EDID
 record_in (got e n) = e
-record_in (refused k n) = crateBlank
+record_in (refused k n) = crate_blank
 
 -- where to look for the difference: a number of what a crate record shows
 record Exhibit : Type 0 where
@@ -81,7 +81,7 @@ record Computes (x : Exhibit) : Type 0 where
   pub accepted : (standard_of x.block).end ≡ Accepted
   pub differs :
       eqb (x.look (crate_shows x.block))
-      (x.look (converted (crate_shows x.block).product.maker (standardSeen (standard_of x.block).edid))) ≡ false
+      (x.look (converted (crate_shows x.block).product.maker (standard_seen (standard_of x.block).edid))) ≡ false
 
 all_bytes_lem : (s : List ℕ) → every (λ b. ltb b 256) s ≡ true → Bytes s
 all_bytes_lem [] h = λ i. omega arith
@@ -164,7 +164,7 @@ Each P [] = Unit {0}
 Each P (x ∷ xs) = P x × Each P xs
 
 computed : Each Computes exhibits
-unfolding exhibits specimen seen standardSeen converted marks_in byte word long header maker date product version crateInputOf input size_of crateGammaFrom dpms_of dpms display color front crateFlagsOf established standard_timing_of cratePairOf pair pairs scan padding skip span text crateSyncOf fitted axes timing_of timed detailed spaces closing cratePointOf point ended second points white string_of string raw_of raw crateLimitsOf none gtf_of gtf other secondary range tagged descriptor later slots parts cratePlain reading tag_of standard_of before_slots judged record_of said point_at range_in timing_in product_in colors_in input_of image_of gamma_of features_of point_of flags_of pair_of limits_of secondary_of closing_refusal range_refusal blank back_porch across_of down_of of_bits to_bits of_int add div
+unfolding exhibits specimen seen standard_seen converted marks_in byte word long header maker date product version crate_input_of input size_of crate_gamma_from dpms_of dpms display color front crate_flags_of established standard_timing_of crate_pair_of pair pairs scan padding skip span text crate_sync_of fitted axes timing_of timed detailed spaces closing crate_point_of point ended second points white string_of string raw_of raw crate_limits_of none gtf_of gtf other secondary range tagged descriptor later slots parts crate_plain reading tag_of standard_of before_slots judged record_of said point_at range_in timing_in product_in colors_in input_of image_of gamma_of features_of point_of flags_of pair_of limits_of secondary_of closing_refusal range_refusal blank back_porch across_of down_of of_bits to_bits of_int add div
 computed = (
   record { size = refl; bytes = refl; marked = refl; answered = refl; accepted = refl; differs = refl },
   (
@@ -220,10 +220,10 @@ each_mark_parts m = go m.active m.dummy m.index m.gamma m.ratio m.revision
     go false false false false true true h = absurd (omega arith)
 
 -- the gamma that stands for none is that of no byte
-pub never_that_gamma : (v : ℕ) → v < 256 → crateGammaOf v ≡ point_gamma Gamma.None → ⊥
+pub never_that_gamma : (v : ℕ) → v < 256 → crate_gamma_of v ≡ point_gamma Gamma.None → ⊥
 unfolding of_bits to_bits of_int add div
 never_that_gamma v h e =
-    eqb-false _ _ (none_of 256 (λ k. eqb (to_bits binary32 (crateGammaOf k)) (to_bits binary32 (point_gamma Gamma.None))) refl v h) (ap (to_bits binary32) e)
+    eqb-false _ _ (none_of 256 (λ k. eqb (to_bits binary32 (crate_gamma_of k)) (to_bits binary32 (point_gamma Gamma.None))) refl v h) (ap (to_bits binary32) e)
 
 -- ---- no mark
 

@@ -4,18 +4,18 @@ use Rattle.std.proofs.Common.{sym, ap, ◌∙◌, add-zero, arith, eqb-true, lt-
 use Rattle.std.specs.Float.{binary32}
 use Rattle.std.specs.Float.Ieee.{of_bits, of_int, add, div}
 use Rattle.bits.specs.Fields.{digits, bit, by_code}
-use Rattle.crate_record.specs.Single.{f10, f100, whole, coordinate, ratio_of as crateRatioOf}
+use Rattle.crate_record.specs.Single.{f10, f100, whole, coordinate, ratio_of as crate_ratio_of}
 use Rattle.crate_record.specs.declared.ImageSize.{ImageSize as CrateSize}
 use Rattle.crate_record.specs.declared.MaxSize.{MaxSize}
 use Rattle.crate_record.specs.declared.VideoInput.{VideoInput as CrateInput}
 use Rattle.crate_record.specs.declared.Gamma.{Gamma as CrateGamma}
-use Rattle.crate_head.specs.Head.{input_of as crateInputOf, size_of, gamma_from as crateGammaOf, kind_of, dpms_of}
-use Rattle.crate_timings.specs.Pairs.{standard_timing_of, pair_of as cratePairOf, listed}
+use Rattle.crate_head.specs.Head.{input_of as crate_input_of, size_of, gamma_from as crate_gamma_of, kind_of, dpms_of}
+use Rattle.crate_timings.specs.Pairs.{standard_timing_of, pair_of as crate_pair_of, listed}
 use Rattle.crate_timings.specs.declared.Pair.{Pair as CratePair}
 use Rattle.crate_record.specs.declared.SyncLine.{SyncLine as CrateLine}
 use Rattle.crate_record.specs.declared.SyncType.{SyncType}
-use Rattle.crate_detailed.specs.Detailed.{line_of as crateLineOf, sync_by as crateSyncBy}
-use Rattle.crate_descriptors.specs.Descriptors.{point_of as cratePointOf, limits_of as crateLimitsOf}
+use Rattle.crate_detailed.specs.Detailed.{line_of as crate_line_of, sync_by as crate_sync_by}
+use Rattle.crate_descriptors.specs.Descriptors.{point_of as crate_point_of, limits_of as crate_limits_of}
 use Rattle.timing.specs.Rest.{polarity_of}
 use Rattle.timing.specs.declared.Size.{Size}
 use Rattle.standard_record.specs.declared.Week.{Week}
@@ -24,7 +24,7 @@ use Rattle.standard_record.specs.declared.ImageSize.{ImageSize}
 use Rattle.standard_record.specs.declared.Sync.{Sync}
 use Rattle.standard_timing.specs.Timing.{line_of, sync_by}
 use Rattle.standard_parts.specs.Structure.{since4}
-use Rattle.standard_parts.specs.Head.{week_of, depth_of, input_of, image_of, gamma_of, type_of, tells_interface, kind_of as standardKindOf, features_of}
+use Rattle.standard_parts.specs.Head.{week_of, depth_of, input_of, image_of, gamma_of, type_of, tells_interface, kind_of as standard_kind_of, features_of}
 use Rattle.standard_parts.specs.Descriptors.{offsets_of, limits_of}
 use Rattle.standard_parts.specs.Color.{point_of}
 use Rattle.standard_parts.specs.Timings.{ratio_of, pair_of}
@@ -54,8 +54,8 @@ week_agrees σ b = go (since4 σ) (eqb b 0xff) refl
     go true false e = refl
     go false y e = refl
 
-pub input_agrees : (σ : Structure) (b : ℕ) → crateInputOf b ≡ input_from (input_of σ b)
-unfolding crateInputOf input_of
+pub input_agrees : (σ : Structure) (b : ℕ) → crate_input_of b ≡ input_from (input_of σ b)
+unfolding crate_input_of input_of
 input_agrees σ b = through input_from (bit b 7) (digital (since4 σ)) refl
   where
     last : b / 2 ^ 0 % 2 ≡ digits b 0 4 / 2 ^ 0 % 2
@@ -106,15 +106,15 @@ size_agrees σ w h l m = go (eqb w 0) (eqb h 0) (since4 σ)
 pub hundredths_agree : (v : ℕ) → v < 256 → div binary32 (add binary32 (whole v) f100) f100 ≡ over (v + 100) f100
 hundredths_agree v h = ap (λ x. div binary32 x f100) (ap (add binary32 (whole v)) hundred ∙ sum_whole v 100 (omega arith) (omega arith))
 
-pub gamma_agrees : (v : ℕ) → v < 256 → crateGammaOf v ≡ gamma_from (gamma_of v)
-unfolding crateGammaOf gamma_of
+pub gamma_agrees : (v : ℕ) → v < 256 → crate_gamma_of v ≡ gamma_from (gamma_of v)
+unfolding crate_gamma_of gamma_of
 gamma_agrees v h = through gamma_from (eqb v 0xff) refl (ap CrateGamma.Some (hundredths_agree v h))
 
 type_agrees : (n : ℕ) → kind_of n ≡ type_from (type_of n)
 type_agrees n = through_code type_from n refl refl refl refl
 
 -- encodings by their code
-kind_agrees : (encoded : Bool) (n : ℕ) → n < 4 → kind_of n ≡ kind_from (standardKindOf encoded n)
+kind_agrees : (encoded : Bool) (n : ℕ) → n < 4 → kind_of n ≡ kind_from (standard_kind_of encoded n)
 kind_agrees false n h = type_agrees n
 kind_agrees true zero h = refl
 kind_agrees true (suc zero) h = refl
@@ -137,15 +137,15 @@ features_agree input b = λ i. record {
 -- ---- a pair
 
 -- code 0 is 16:10, unless the structure has 1:1 for it
-ratio_agrees : (σ : Structure) (n : ℕ) → (σ ≡ Structure.Below3 → eqb n 0 ≡ false) → crateRatioOf n ≡ ratio_from (ratio_of σ n)
+ratio_agrees : (σ : Structure) (n : ℕ) → (σ ≡ Structure.Below3 → eqb n 0 ≡ false) → crate_ratio_of n ≡ ratio_from (ratio_of σ n)
 unfolding of_bits of_int
 ratio_agrees Structure.Below3 n h = rw (h refl) (through ratio_from (eqb n 1) refl (through ratio_from (eqb n 2) refl refl))
 ratio_agrees Structure.From3 n h = through_code ratio_from n refl refl refl refl
 ratio_agrees Structure.From4 n h = through_code ratio_from n refl refl refl refl
 
 pub pair_agrees : (σ : Structure) (low high : ℕ) → (σ ≡ Structure.Below3 → code_zero low high ≡ false)
-    → listed (cratePairOf low high) ≡ map pair_from (of_pair (pair_of σ low high))
-unfolding cratePairOf standard_timing_of pair_of
+    → listed (crate_pair_of low high) ≡ map pair_from (of_pair (pair_of σ low high))
+unfolding crate_pair_of standard_timing_of pair_of
 pair_agrees σ low high h = go (eqb low 1 && eqb high 1) h
   where
     alone : (b : Bool) → (b && true) ≡ false → b ≡ false
@@ -168,8 +168,8 @@ pair_agrees σ low high h = go (eqb low 1 && eqb high 1) h
 -- ---- a white point
 
 pub point_agrees : (index low x y g : ℕ) → eqb index 0 ≡ false → eqb g 0xff ≡ false → g < 256
-    → cratePointOf index low x y g ∷ [] ≡ map point_from (of_point (point_of index low x y g))
-unfolding cratePointOf point_of gamma_of
+    → crate_point_of index low x y g ∷ [] ≡ map point_from (of_point (point_of index low x y g))
+unfolding crate_point_of point_of gamma_of
 point_agrees index low x y g used given h =
     rw (used, given)
     (λ i. record { index = index; x = coordinate x low 2; y = coordinate y low 0; gamma = hundredths_agree g h i } ∷ [])
@@ -178,11 +178,11 @@ point_agrees index low x y g used given h =
 
 -- where the offsets add nothing
 pub limits_agree : (σ : Structure) (b4 b5 b6 b7 b8 b9 : ℕ) → (since4 σ ≡ true → (digits b4 0 2 < 2) × (digits b4 2 2 < 2))
-    → crateLimitsOf b5 b6 b7 b8 b9 ≡ limits_from (limits_of (offsets_of σ b4) b5 b6 b7 b8 b9)
-unfolding crateLimitsOf limits_of
+    → crate_limits_of b5 b6 b7 b8 b9 ≡ limits_from (limits_of (offsets_of σ b4) b5 b6 b7 b8 b9)
+unfolding crate_limits_of limits_of
 limits_agree σ b4 b5 b6 b7 b8 b9 few = go (since4 σ) refl
   where
-    go : (z : Bool) → since4 σ ≡ z → crateLimitsOf b5 b6 b7 b8 b9 ≡ limits_from (limits_of (offsets_of σ b4) b5 b6 b7 b8 b9)
+    go : (z : Bool) → since4 σ ≡ z → crate_limits_of b5 b6 b7 b8 b9 ≡ limits_from (limits_of (offsets_of σ b4) b5 b6 b7 b8 b9)
     go true e =
         let v = (few e).0 in
         let h = (few e).1 in
@@ -191,7 +191,7 @@ limits_agree σ b4 b5 b6 b7 b8 b9 few = go (since4 σ) refl
 
 -- ---- the sync of a timing
 
-line_agrees : (one : Bool) → crateLineOf one ≡ line_from (line_of one)
+line_agrees : (one : Bool) → crate_line_of one ≡ line_from (line_of one)
 line_agrees true = refl
 line_agrees false = refl
 
@@ -200,11 +200,11 @@ below_two zero = refl
 below_two (suc zero) = refl
 below_two (suc (suc n)) = rw (le-ltb (suc (suc n)) 2 (omega arith), ne_eqb (suc (suc n)) 0 (λ e. omega arith), ne_eqb (suc (suc n)) 1 (λ e. omega arith))
 
-pub sync_agrees : (n : ℕ) (two one : Bool) → crateSyncBy n two one ≡ sync_from (sync_by n two one)
+pub sync_agrees : (n : ℕ) (two one : Bool) → crate_sync_by n two one ≡ sync_from (sync_by n two one)
 sync_agrees n two one = rw below_two (go (eqb n 0) (eqb n 1) (eqb n 2))
   where
     go : (a b c : Bool)
-        → cond (a || b) (SyncType.Composite two (crateLineOf one))
+        → cond (a || b) (SyncType.Composite two (crate_line_of one))
         (cond c (SyncType.Composite two (CrateLine.Digital (polarity_of one))) (SyncType.Separate (polarity_of one) (polarity_of two)))
         ≡ sync_from (cond a (Sync.AnalogComposite two (line_of one)) (cond b (Sync.BipolarAnalogComposite two (line_of one))
         (cond c (Sync.DigitalComposite two (polarity_of one)) (Sync.DigitalSeparate (polarity_of one) (polarity_of two)))))

@@ -11,7 +11,7 @@ use Rattle.fixed.specs.Gather.{gather}
 use Rattle.steps.specs.Steps.{done}
 use Rattle.steps.specs.Leaves.{byte}
 use Rattle.crate_record.specs.declared.StandardTiming.{StandardTiming as CratePair}
-use Rattle.crate_timings.specs.Pairs.{pair_of as cratePairOf, pair, listed, pairs}
+use Rattle.crate_timings.specs.Pairs.{pair_of as crate_pair_of, pair, listed, pairs}
 use Rattle.standard_parts.specs.declared.Structure.{Structure}
 use Rattle.standard_slots.specs.Said.{pair_at, pairs_at}
 use Rattle.marking.specs.Marks.{some, code_zero, codes_zero}
@@ -68,7 +68,7 @@ module _ (σ : Structure) (s : List ℕ) where
       let whole : map pair_from (pair_at σ s k) ++ map pair_from (pairs_at σ s (k + 2) n) ≡ map pair_from (pairs_at σ s k (suc n)) = sym (map-append pair_from (pair_at σ s k) (pairs_at σ s (k + 2) n)) ∙ ap (map pair_from) (sym (pairs_more k n)) in
       let end : k + 2 + 2 * n ≡ k + 2 * suc n = omega arith in
       rw (spell s k 2 (omega arith))
-      (along_then (PairsRead k (suc n) at) F (pairs n) (λ xs. done (listed (cratePairOf (s ! k) (s ! (k + 1))) ++ xs)) (drop (k + 2) s) (at + 1 + 1)
+      (along_then (PairsRead k (suc n) at) F (pairs n) (λ xs. done (listed (crate_pair_of (s ! k) (s ! (k + 1))) ++ xs)) (drop (k + 2) s) (at + 1 + 1)
       (along_map (PairsRead (k + 2) n (at + 1 + 1)) F _ (pairs n) (drop (k + 2) s) (at + 1 + 1)
       (λ xs cs m r. ((λ j. first j ++ r.0 j) ∙ whole, r.1 ∙ ap (λ (j : ℕ). drop j s) end, omega (arith, r.2)))
       (pairs_along F n (k + 2) (at + 1 + 1) (omega arith) (λ e. (codes_more k n (z e)).1))))

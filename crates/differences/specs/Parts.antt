@@ -12,10 +12,10 @@ use Rattle.steps.specs.Laws.{run_bind}
 use Rattle.crate_record.specs.Seen.{holding}
 use Rattle.crate_record.specs.declared.ManufacturerID.{ManufacturerID}
 use Rattle.crate_record.specs.declared.StandardTiming.{StandardTiming as CratePair}
-use Rattle.crate_head.specs.Head.{maker_of as crateMakerOf}
+use Rattle.crate_head.specs.Head.{maker_of as crate_maker_of}
 use Rattle.crate_head.specs.declared.Front.{Front}
 use Rattle.crate_slots.specs.Slots as crate
-use Rattle.crate_reading.specs.Reading.{Parts, parts, plain as cratePlain, reading, answer}
+use Rattle.crate_reading.specs.Reading.{Parts, parts, plain as crate_plain, reading, answer}
 use Rattle.standard_record.specs.Held.{held_point, held_pair, held_timing, held}
 use Rattle.standard_record.specs.declared.Verdict.{Verdict}
 use Rattle.standard_record.specs.declared.Verdict.TheVariants.{Accepted, Refused}
@@ -71,17 +71,17 @@ module _ (s : List ℕ) where
 
   -- the maker's word, as the crate reading has it
   abbrev pub number : ManufacturerID
-  number = crateMakerOf (s ! 8 + 256 * s ! 9)
+  number = crate_maker_of (s ! 8 + 256 * s ! 9)
 
   -- ---- the block
 
   abbrev pub PartsRead : Parts → List ℕ → ℕ → Type 0
-  PartsRead p cs n = (is_header s ≡ true) × Accepts s 4 0 × (NoOffsets s → cratePlain p ≡ converted number (plain s)) × (n ≡ 127)
+  PartsRead p cs n = (is_header s ≡ true) × Accepts s 4 0 × (NoOffsets s → crate_plain p ≡ converted number (plain s)) × (n ≡ 127)
 
   -- the parts, put together
   pub plain_agrees : (f : Front) (a : List CratePair) (xs : List crate.Said) → f ≡ front_from s → a ≡ map pair_from (eight_in s) → All s 4 0 xs → NoOffsets s
-      → cratePlain (record { front = f; established = flags_in s; eight = a; slots = xs; extensions = s ! 126 }) ≡ converted number (plain s)
-  unfolding cratePlain converted
+      → crate_plain (record { front = f; established = flags_in s; eight = a; slots = xs; extensions = s ! 126 }) ≡ converted number (plain s)
+  unfolding crate_plain converted
   plain_agrees f a xs h k all still =
       let t = together_is still xs all in
       let eight = map-map (λ p. pair_from p.pair) (held_pair.wrap 0) (eight_in s) in
@@ -128,9 +128,9 @@ module _ (s : List ℕ) where
   -- an answer is that of the parts
   pub refused_parts : (k n : ℕ) → answer s ≡ refused k n → run parts s 0 ≡ refused k n
   unfolding reading
-  refused_parts k n e = go (run parts s 0) (sym (run_bind parts (λ p. done (holding (cratePlain p))) s 0) ∙ e)
+  refused_parts k n e = go (run parts s 0) (sym (run_bind parts (λ p. done (holding (crate_plain p))) s 0) ∙ e)
     where
-      go : (o : Outcome Parts) → and_then o (λ p m. got (holding (cratePlain p)) m) ≡ refused k n → o ≡ refused k n
+      go : (o : Outcome Parts) → and_then o (λ p m. got (holding (crate_plain p)) m) ≡ refused k n → o ≡ refused k n
       go (got p m) h = cc
       go (refused j m) h = cc
 

@@ -11,7 +11,7 @@ use Rattle.timing.specs.declared.Across.{Across}
 use Rattle.timing.specs.declared.Down.{Down}
 use Rattle.timing.specs.declared.AcrossRead.{AcrossRead}
 use Rattle.timing.specs.declared.DownRead.{DownRead}
-use Rattle.crate_detailed.specs.Detailed.{fitted, axes, sync_of as crateSyncOf, timing_of, timed, detailed}
+use Rattle.crate_detailed.specs.Detailed.{fitted, axes, sync_of as crate_sync_of, timing_of, timed, detailed}
 use Rattle.crate_detailed.specs.declared.MaybeTiming.{MaybeTiming}
 use Rattle.standard_record.specs.declared.DetailedTiming.{DetailedTiming}
 use Rattle.standard_timing.specs.Timing.{timing_in, sync_of}
@@ -43,7 +43,7 @@ module _ (F : ℕ → Type 0) (b0 b1 b2 b3 b4 b5 b6 b7 b8 b9 b10 b11 b12 b13 b14
 
   fields_agree : (h : Across) (v : Down)
       → MaybeTiming.Some (timing_of (b0 + 256 * b1) (record { across = h; down = v }) b12 b13 b14 b15 b16 b17) ≡ MaybeTiming.Some (timing_from (fields h v))
-  unfolding timing_of crateSyncOf
+  unfolding timing_of crate_sync_of
   fields_agree h v = λ i. MaybeTiming.Some (record {
     clock = clock_of (b0 + 256 * b1);
     across = h;

@@ -4,7 +4,7 @@ use Rattle.bits.specs.Fields.{digits}
 use Rattle.bits.specs.Bytes.{◌!◌, part}
 use Rattle.crate_record.specs.Seen.{Seen as CrateSeen}
 use Rattle.crate_record.specs.declared.ManufacturerID.{ManufacturerID}
-use Rattle.crate_head.specs.Head.{maker_of as crateMakerOf}
+use Rattle.crate_head.specs.Head.{maker_of as crate_maker_of}
 use Rattle.standard_record.specs.Seen.{Seen}
 use Rattle.standard_record.specs.declared.Maker.{Maker}
 use Rattle.standard_parts.specs.Head.{maker_of}
@@ -45,7 +45,7 @@ other_fill t = (tagged 0xfc t || tagged 0xfe t || tagged 0xff t) && not (all_spa
 
 -- the maker's rule: two bytes give both, the crate's with the low byte first, the standard one with the high byte first
 pub record SameWord (first second : ℕ) (number : ManufacturerID) (letters : Maker) : Type 0 where
-  pub crate : number ≡ crateMakerOf (first + 256 * second)
+  pub crate : number ≡ crate_maker_of (first + 256 * second)
   pub standard : letters ≡ maker_of first second
 
 -- all other fields of the crate record are those of the standard record, converted; s is the block

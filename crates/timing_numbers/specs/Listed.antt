@@ -10,14 +10,14 @@ use Rattle.timing.specs.declared.SyncPolarity.TheVariants.{Positive, Negative}
 use Rattle.standard_record.specs.declared.Sync.{Sync}
 use Rattle.standard_record.specs.declared.Sync.TheVariants.{AnalogComposite, BipolarAnalogComposite, DigitalComposite, DigitalSeparate}
 use Rattle.standard_record.specs.declared.DetailedTiming.{DetailedTiming}
-use Rattle.timing_numbers.specs.Numbers.{polarity as polarityNumber, sync_numbers, numbers_of}
+use Rattle.timing_numbers.specs.Numbers.{polarity as polarity_number, sync_numbers, numbers_of}
 
 flag_is : (b : Bool) → flag b ≡ field8 (digit b)
 unfolding flag field8 decimal_in
 flag_is true = refl
 flag_is false = refl
 
-polarity_is : (p : SyncPolarity) → polarity p ≡ field8 (polarityNumber p)
+polarity_is : (p : SyncPolarity) → polarity p ≡ field8 (polarity_number p)
 unfolding polarity field8 decimal_in
 polarity_is Positive = refl
 polarity_is Negative = refl
