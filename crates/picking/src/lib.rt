@@ -24,6 +24,7 @@ pub enum Choice {
 }
 
 // Its active pixels in all where it qualifies; else 0, which no timing has that does.
+#[tactic(auto, using(std::proofs::lemmas::Bool::Decides::nat_tests))]
 fn score(limits: Limits, t: DetailedTiming) -> u32
     ensures { result ≡ score_of limits t }
 {
