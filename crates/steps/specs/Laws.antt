@@ -1,14 +1,10 @@
 -- Laws of `run`: a byte is there, or not; one program after the other.
-use Rattle.std.specs.Prelude.{ℕ, suc, ◌+◌, ◌-◌, ◌≤◌, ◌<◌, ◌≡◌, Bool, true, false, ◌||◌, cond, List, ltb, length, get_or}
+use Rattle.std.specs.Prelude.{ℕ, suc, ◌+◌, ◌-◌, ◌≤◌, ◌<◌, ◌≡◌, Bool, true, false, ◌||◌, cond, List, ltb, length, get_or, Result, Err}
 use Rattle.std.proofs.Common.{arith, sym, ◌∙◌, subst, lt-ltb, le-ltb, ltb-true, ltb-false}
 use Rattle.std.proofs.Math.Path.{refl, ap}
 use Rattle.steps.specs.Steps.{Steps, done, refuse, next, here, ◌>>=◌, Outcome, refused, run, and_then, ensure}
-use Rattle.steps.specs.Leaves.{byte, two, four, of_two, of_four, ended, Filled, Beside}
-use Rattle.steps.specs.declared.TwoRead.{TwoRead}
-use Rattle.steps.specs.declared.FourRead.{FourRead}
+use Rattle.steps.specs.Leaves.{ended, Filled, Beside}
 use Rattle.steps.specs.declared.Refusal.{Refusal}
-use Rattle.steps.specs.declared.End.{End}
-use Rattle.steps.specs.declared.End.TheVariants.{Refused}
 
 module _ {A : Type 0} (f : ℕ → Steps A) (s : List ℕ) (at : ℕ) where
   -- the two cases of `run (next f)`, by the test's value
@@ -49,18 +45,6 @@ run_bind (here f) g s at = run_bind (f at) g s at
 pub step : {A B R : Type 0} (of : R → Outcome A) (p : Steps A) (g : A → Steps B) (s : List ℕ) (at : ℕ) {r r' : R}
     → of r ≡ run p s at → r ≡ r' → run (p >>= g) s at ≡ and_then (of r') (λ a n. run (g a) s n)
 step of p g s at e m = run_bind p g s at ∙ ap (λ o. and_then o (λ a n. run (g a) s n)) (sym e ∙ ap of m)
-
--- the same where the code takes two or four bytes at once, and the program one after the other
-pub step_two : {B : Type 0} (g : ℕ → ℕ → Steps B) (s : List ℕ) (at : ℕ) {r r' : TwoRead} → of_two r ≡ run two s at → r ≡ r'
-    → run (byte >>= (λ a. byte >>= (λ b. g a b))) s at ≡ and_then (of_two r') (λ p n. run (g p.0 p.1) s n)
-unfolding byte two
-step_two g s at e m = step of_two two (λ p. g p.0 p.1) s at e m
-
-pub step_four : {B : Type 0} (g : ℕ → ℕ → ℕ → ℕ → Steps B) (s : List ℕ) (at : ℕ) {r r' : FourRead} → of_four r ≡ run four s at → r ≡ r'
-    → run (byte >>= (λ a. byte >>= (λ b. byte >>= (λ c. byte >>= (λ d. g a b c d))))) s at
-    ≡ and_then (of_four r') (λ p n. run (g p.0 p.1 p.2 p.3) s n)
-unfolding byte four
-step_four g s at e m = step of_four four (λ p. g p.0 p.1 p.2 p.3) s at e m
 
 -- one program for an equal one
 pub same_run : {A : Type 0} {p q : Steps A} (s : List ℕ) (at : ℕ) → p ≡ q → run p s at ≡ run q s at
@@ -103,8 +87,8 @@ abbrev pub SoFar : {A : Type 0} → Steps A → List ℕ → ℕ → Type 0
 SoFar {A} p s at = (o : Outcome A) × (run p s at ≡ o)
 
 -- a refusal, with the filler beside it
-pub refused_beside : {A : Type 0} {filler a : A} {e : End} {f : Refusal} {o : Outcome A}
-    → a ≡ filler → e ≡ Refused f → refused f.number f.at ≡ o → Beside filler a e o
+pub refused_beside : {A : Type 0} {filler a : A} {e : Result ℕ Refusal} {f : Refusal} {o : Outcome A}
+    → a ≡ filler → e ≡ Err f → refused f.number f.at ≡ o → Beside filler a e o
 refused_beside {A} {filler} {a} p q r =
     record { answer = ap (ended a) q ∙ r; filled = subst (Filled filler a) (sym q) p }
 

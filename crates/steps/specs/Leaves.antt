@@ -1,18 +1,7 @@
--- The smallest programs, and the answers of the cursor's methods as outcomes.
-use Rattle.std.specs.Prelude.{ℕ, ◌+◌, ◌*◌, ◌≡◌}
+-- The smallest programs, and answers as outcomes.
+use Rattle.std.specs.Prelude.{ℕ, ◌+◌, ◌*◌, ◌≡◌, Result, Ok, Err}
 use Rattle.steps.specs.Steps.{Steps, done, next, here, ◌>>=◌, Outcome, got, refused}
-use Rattle.steps.specs.declared.ByteRead.{ByteRead}
-use Rattle.steps.specs.declared.ByteRead.TheVariants as B
-use Rattle.steps.specs.declared.TwoRead.{TwoRead}
-use Rattle.steps.specs.declared.TwoRead.TheVariants as T
-use Rattle.steps.specs.declared.FourRead.{FourRead}
-use Rattle.steps.specs.declared.FourRead.TheVariants as F
-use Rattle.steps.specs.declared.WordRead.{WordRead}
-use Rattle.steps.specs.declared.WordRead.TheVariants as W
-use Rattle.steps.specs.declared.LongRead.{LongRead}
-use Rattle.steps.specs.declared.LongRead.TheVariants as L
-use Rattle.steps.specs.declared.End.{End}
-use Rattle.steps.specs.declared.End.TheVariants as E
+use Rattle.steps.specs.declared.Refusal.{Refusal}
 
 unfoldable pub byte : Steps ℕ
 byte = next (λ b. done b)
@@ -50,39 +39,28 @@ four = do
   d ← byte
   done (a, b, c, d)
 
--- ---- the answers as outcomes: the value and the place after it, or the refusal's number and place
+-- ---- answers
 
-abbrev pub of_byte : ByteRead → Outcome ℕ
-of_byte (B.Got b c) = got b c.at
-of_byte (B.Refused f) = refused f.number f.at
+-- a value with the place behind it, or the refusal's number and place
+abbrev pub outcome : {A : Type 0} → Result A Refusal → ℕ → Outcome A
+outcome (Ok a) at = got a at
+outcome (Err f) at = refused f.number f.at
 
-abbrev pub of_two : TwoRead → Outcome (ℕ × ℕ)
-of_two (T.Got a b c) = got (a, b) c.at
-of_two (T.Refused f) = refused f.number f.at
+-- on a refusal the cursor stands where it is refused
+abbrev pub Stands : {A : Type 0} → Result A Refusal → ℕ → Type 0
+Stands (Ok a) n = Unit
+Stands (Err f) n = f.at ≡ n
 
-abbrev pub of_four : FourRead → Outcome (ℕ × ℕ × ℕ × ℕ)
-of_four (F.Got a b x y c) = got (a, b, x, y) c.at
-of_four (F.Refused f) = refused f.number f.at
-
-abbrev pub of_word : WordRead → Outcome ℕ
-of_word (W.Got w c) = got w c.at
-of_word (W.Refused f) = refused f.number f.at
-
-abbrev pub of_long : LongRead → Outcome ℕ
-of_long (L.Got l c) = got l c.at
-of_long (L.Refused f) = refused f.number f.at
-
--- ---- a value that lies beside its reading's end
-
-abbrev pub ended : {A : Type 0} → A → End → Outcome A
-ended a (E.At c) = got a c.at
-ended a (E.Refused f) = refused f.number f.at
+-- of a value that lies beside its reading's end: the place behind, or the refusal
+abbrev pub ended : {A : Type 0} → A → Result ℕ Refusal → Outcome A
+ended a (Ok n) = got a n
+ended a (Err f) = refused f.number f.at
 
 -- on a refusal the value is the filler
-abbrev pub Filled : {A : Type 0} → A → A → End → Type 0
-Filled filler a (E.At c) = Unit
-Filled filler a (E.Refused f) = a ≡ filler
+abbrev pub Filled : {A : Type 0} → A → A → Result ℕ Refusal → Type 0
+Filled filler a (Ok n) = Unit
+Filled filler a (Err f) = a ≡ filler
 
-pub record Beside {A : Type 0} (filler a : A) (e : End) (o : Outcome A) : Type 0 where
+pub record Beside {A : Type 0} (filler a : A) (e : Result ℕ Refusal) (o : Outcome A) : Type 0 where
   pub answer : ended a e ≡ o
   pub filled : Filled filler a e

@@ -1,25 +1,17 @@
--- `steps::Cursor::four` meets its contract: a chain of reads, each a `step`. Assumes nothing.
-use mathlib.Core.Path.{sym, ◌∙◌}
-use Rattle.steps.specs.Laws.{step_two}
+-- `steps::Cursor::four` meets its contract: one read after the other. Assumes nothing.
+use Rattle.std.proofs.Common.{rules, refl}
+use Rattle.steps.specs.Took.{then_two, stop_two, gives}
 use Rattle.steps.specs.Leaves.{four}
 use Rattle.steps.proofs.Cursor.four.Goals as goal
 
-pub returns-in-Refused : goal.returns-in-Refused
+pub returns-in_err-a : goal.returns-in_err-a
 unfolding four
-returns-in-Refused c =
-    sym
-    (step_two _ _ _ c.two.ensures c.in-Refused.is)
+returns-in_err-a c = stop_two _ c.two.ensures c.in_err-a.was (search rules)
 
-pub returns-in-Refused-two : goal.returns-in-Refused-two
+pub returns-in_err-x : goal.returns-in_err-x
 unfolding four
-returns-in-Refused-two c =
-    sym
-    ((step_two _ _ _ c.two.ensures c.in-Got.is)
-    ∙ step_two _ _ _ c.two-in-Got.ensures c.in-Refused-two.is)
+returns-in_err-x c = then_two _ c.two.ensures c.in_ok-a.was (stop_two _ c.two-2.ensures c.in_err-x.was (search rules))
 
-pub returns-in-Got-two : goal.returns-in-Got-two
+pub returns : goal.returns
 unfolding four
-returns-in-Got-two c =
-    sym
-    ((step_two _ _ _ c.two.ensures c.in-Got.is)
-    ∙ step_two _ _ _ c.two-in-Got.ensures c.in-Got-two.is)
+returns c = then_two _ c.two.ensures c.in_ok-a.was (then_two _ c.two-2.ensures c.in_ok-x.was (gives refl))

@@ -1,28 +1,17 @@
--- `steps::Cursor::long` meets its contract: a chain of reads, each a `step`. Assumes nothing.
-use mathlib.Core.Path.{sym, ap, ◌∙◌}
-use Rattle.steps.specs.Laws.{step}
-use Prim.Native.Nat.{ℕ}
-use Rattle.steps.specs.Steps.{got}
-use Rattle.steps.specs.Leaves.{word, long, of_word}
+-- `steps::Cursor::long` meets its contract: one read after the other. Assumes nothing.
+use Rattle.std.proofs.Common.{rules, ap, Ok}
+use Rattle.steps.specs.Took.{then, stop, gives}
+use Rattle.steps.specs.Leaves.{long}
 use Rattle.steps.proofs.Cursor.long.Goals as goal
 
-pub returns-in-Refused : goal.returns-in-Refused
+pub returns-in_err-low : goal.returns-in_err-low
 unfolding long
-returns-in-Refused c =
-    sym
-    (step of_word word _ _ _ c.word.ensures c.in-Refused.is)
+returns-in_err-low c = stop _ c.word.ensures c.in_err-low.was (search rules)
 
-pub returns-in-Refused-word : goal.returns-in-Refused-word
+pub returns-in_err-high : goal.returns-in_err-high
 unfolding long
-returns-in-Refused-word c =
-    sym
-    ((step of_word word _ _ _ c.word.ensures c.in-Got.is)
-    ∙ step of_word word _ _ _ c.word-in-Got.ensures c.in-Refused-word.is)
+returns-in_err-high c = then _ c.word.ensures c.in_ok-low.was (stop _ c.word-2.ensures c.in_err-high.was (search rules))
 
-pub returns-in-Got-word : goal.returns-in-Got-word
+pub returns : goal.returns
 unfolding long
-returns-in-Got-word c =
-    ap (λ (w : ℕ). got w c.in-Got-word.last.at) c.long.ensures
-    ∙ sym
-    ((step of_word word _ _ _ c.word.ensures c.in-Got.is)
-    ∙ step of_word word _ _ _ c.word-in-Got.ensures c.in-Got-word.is)
+returns c = then _ c.word.ensures c.in_ok-low.was (then _ c.word-2.ensures c.in_ok-high.was (gives (ap Ok c.long.ensures)))

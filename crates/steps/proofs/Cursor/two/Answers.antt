@@ -1,25 +1,17 @@
--- `steps::Cursor::two` meets its contract: a chain of reads, each a `step`. Assumes nothing.
-use mathlib.Core.Path.{sym, ◌∙◌}
-use Rattle.steps.specs.Laws.{step}
-use Rattle.steps.specs.Leaves.{byte, two, of_byte}
+-- `steps::Cursor::two` meets its contract: one read after the other. Assumes nothing.
+use Rattle.std.proofs.Common.{rules, refl}
+use Rattle.steps.specs.Took.{then, stop, gives}
+use Rattle.steps.specs.Leaves.{two}
 use Rattle.steps.proofs.Cursor.two.Goals as goal
 
-pub returns-in-Refused : goal.returns-in-Refused
+pub returns-in_err-first : goal.returns-in_err-first
 unfolding two
-returns-in-Refused c =
-    sym
-    (step of_byte byte _ _ _ c.byte.ensures c.in-Refused.is)
+returns-in_err-first c = stop _ c.byte.ensures c.in_err-first.was (search rules)
 
-pub returns-in-Refused-byte : goal.returns-in-Refused-byte
+pub returns-in_err-second : goal.returns-in_err-second
 unfolding two
-returns-in-Refused-byte c =
-    sym
-    ((step of_byte byte _ _ _ c.byte.ensures c.in-Got.is)
-    ∙ step of_byte byte _ _ _ c.byte-2.ensures c.in-Refused-byte.is)
+returns-in_err-second c = then _ c.byte.ensures c.in_ok-first.was (stop _ c.byte-2.ensures c.in_err-second.was (search rules))
 
-pub returns-in-Got-byte : goal.returns-in-Got-byte
+pub returns : goal.returns
 unfolding two
-returns-in-Got-byte c =
-    sym
-    ((step of_byte byte _ _ _ c.byte.ensures c.in-Got.is)
-    ∙ step of_byte byte _ _ _ c.byte-2.ensures c.in-Got-byte.is)
+returns c = then _ c.byte.ensures c.in_ok-first.was (then _ c.byte-2.ensures c.in_ok-second.was (gives refl))

@@ -1,20 +1,13 @@
--- `steps::Cursor::word` meets its contract: a chain of reads, each a `step`. Assumes nothing.
-use mathlib.Core.Path.{sym, ap, ◌∙◌}
-use Rattle.steps.specs.Laws.{step_two}
-use Prim.Native.Nat.{ℕ}
-use Rattle.steps.specs.Steps.{got}
+-- `steps::Cursor::word` meets its contract: one read after the other. Assumes nothing.
+use Rattle.std.proofs.Common.{rules, ap, Ok}
+use Rattle.steps.specs.Took.{then_two, stop_two, gives}
 use Rattle.steps.specs.Leaves.{word}
 use Rattle.steps.proofs.Cursor.word.Goals as goal
 
-pub returns-in-Refused : goal.returns-in-Refused
+pub returns-in_err-low : goal.returns-in_err-low
 unfolding word
-returns-in-Refused c =
-    sym
-    (step_two _ _ _ c.two.ensures c.in-Refused.is)
+returns-in_err-low c = stop_two _ c.two.ensures c.in_err-low.was (search rules)
 
-pub returns-in-Got : goal.returns-in-Got
+pub returns : goal.returns
 unfolding word
-returns-in-Got c =
-    ap (λ (w : ℕ). got w c.in-Got.next.at) c.word.ensures
-    ∙ sym
-    (step_two _ _ _ c.two.ensures c.in-Got.is)
+returns c = then_two _ c.two.ensures c.in_ok-low.was (gives (ap Ok c.word.ensures))

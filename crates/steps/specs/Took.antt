@@ -1,0 +1,83 @@
+-- What a read does to a cursor, and reads one after the other.
+use Rattle.std.specs.Prelude.{ℕ, ◌≡◌, refl, Bool, true, false, Result, Ok, Err}
+use Rattle.std.proofs.Common.{sym, ap, subst, ◌∙◌}
+use Rattle.steps.specs.Steps.{Steps, done, ◌>>=◌, run, and_then, ensure}
+use Rattle.steps.specs.Leaves.{byte, two, four, outcome, Stands}
+use Rattle.steps.specs.Laws.{run_bind, same_run}
+use Rattle.steps.specs.declared.Cursor.{Cursor}
+use Rattle.steps.specs.declared.Refusal.{Refusal}
+
+-- the answer is that of a program, from where the cursor stood; the bytes stay lent
+pub record Took {A : Type 0} (p : Steps A) (old : Cursor) (r : Result A Refusal) (new : Cursor) : Type 0 where
+  pub lent : new.bytes ≡ old.bytes
+  pub answer : outcome r new.at ≡ run p old.bytes.now old.at
+  pub stands : Stands r new.at
+
+-- ---- one read after the other: the first gives a value, or is refused
+
+after : {A B : Type 0} {p : Steps A} (g : A → Steps B) {c c' : Cursor} {r r' : Result A Refusal} → Took p c r c' → r ≡ r'
+    → run (p >>= g) c.bytes.now c.at ≡ and_then (outcome r' c'.at) (λ a n. run (g a) c.bytes.now n)
+after {p = p} g {c = c} {c' = c'} t e =
+    run_bind p g c.bytes.now c.at ∙ ap (λ o. and_then o (λ a n. run (g a) c.bytes.now n)) (sym t.answer ∙ ap (λ r. outcome r c'.at) e)
+
+pub then : {A B : Type 0} {p : Steps A} (g : A → Steps B) {c c' c'' : Cursor} {r : Result A Refusal} {a : A} {r' : Result B Refusal}
+    → Took p c r c' → r ≡ Ok a → Took (g a) c' r' c'' → Took (p >>= g) c r' c''
+then g {c' = c'} {a = a} t e u = record {
+  lent = u.lent ∙ t.lent;
+  answer = u.answer ∙ ap (λ b. run (g a) b.now c'.at) t.lent ∙ sym (after g t e);
+  stands = u.stands;
+}
+
+pub stop : {A B : Type 0} {p : Steps A} (g : A → Steps B) {c c' : Cursor} {r : Result A Refusal} {f : Refusal} {r' : Result B Refusal}
+    → Took p c r c' → r ≡ Err f → r' ≡ Err f → Took (p >>= g) c r' c'
+stop g {c' = c'} {f = f} t e h = record {
+  lent = t.lent;
+  answer = ap (λ r. outcome r c'.at) h ∙ sym (after g t e);
+  stands = subst (λ r. Stands r c'.at) (sym h) (subst (λ r. Stands r c'.at) e t.stands);
+}
+
+-- the same where the code takes two or four bytes at once, and the program one after the other
+pub then_two : {B : Type 0} (g : ℕ → ℕ → Steps B) {c c' c'' : Cursor} {r : Result (ℕ × ℕ) Refusal} {p : ℕ × ℕ} {r' : Result B Refusal}
+    → Took two c r c' → r ≡ Ok p → Took (g p.0 p.1) c' r' c'' → Took (byte >>= (λ a. byte >>= (λ b. g a b))) c r' c''
+unfolding byte two
+then_two g t e u = then (λ p. g p.0 p.1) t e u
+
+pub stop_two : {B : Type 0} (g : ℕ → ℕ → Steps B) {c c' : Cursor} {r : Result (ℕ × ℕ) Refusal} {f : Refusal} {r' : Result B Refusal}
+    → Took two c r c' → r ≡ Err f → r' ≡ Err f → Took (byte >>= (λ a. byte >>= (λ b. g a b))) c r' c'
+unfolding byte two
+stop_two g t e h = stop (λ p. g p.0 p.1) t e h
+
+pub then_four : {B : Type 0} (g : ℕ → ℕ → ℕ → ℕ → Steps B) {c c' c'' : Cursor} {r : Result (ℕ × ℕ × ℕ × ℕ) Refusal} {p : ℕ × ℕ × ℕ × ℕ}
+    {r' : Result B Refusal} → Took four c r c' → r ≡ Ok p → Took (g p.0 p.1 p.2 p.3) c' r' c''
+    → Took (byte >>= (λ a. byte >>= (λ b. byte >>= (λ x. byte >>= (λ y. g a b x y))))) c r' c''
+unfolding byte four
+then_four g t e u = then (λ p. g p.0 p.1 p.2 p.3) t e u
+
+pub stop_four : {B : Type 0} (g : ℕ → ℕ → ℕ → ℕ → Steps B) {c c' : Cursor} {r : Result (ℕ × ℕ × ℕ × ℕ) Refusal} {f : Refusal}
+    {r' : Result B Refusal} → Took four c r c' → r ≡ Err f → r' ≡ Err f
+    → Took (byte >>= (λ a. byte >>= (λ b. byte >>= (λ x. byte >>= (λ y. g a b x y))))) c r' c'
+unfolding byte four
+stop_four g t e h = stop (λ p. g p.0 p.1 p.2 p.3) t e h
+
+-- ---- no byte: a value, a test that holds, a test that fails
+
+pub gives : {A : Type 0} {a : A} {c : Cursor} {r : Result A Refusal} → r ≡ Ok a → Took (done a) c r c
+gives {c = c} e = record {
+  lent = refl;
+  answer = ap (λ r. outcome r c.at) e;
+  stands = subst (λ r. Stands r c.at) (sym e) tt;
+}
+
+pub holds : {B : Type 0} (t : Bool) (k : ℕ) (g : Unit → Steps B) {c c' : Cursor} {r : Result B Refusal} → t ≡ true → Took (g tt) c r c'
+    → Took (ensure t k >>= g) c r c'
+holds t k g {c = c} {c' = c'} {r = r} e u = subst (λ (t : Bool). Took (ensure t k >>= g) c r c') (sym e) u
+
+pub fails : {B : Type 0} (t : Bool) (k : ℕ) (g : Unit → Steps B) {c : Cursor} → t ≡ false
+    → Took (ensure t k >>= g) c (Err (record { number = k; at = c.at })) c
+fails t k g {c = c} e =
+    subst (λ (t : Bool). Took (ensure t k >>= g) c (Err (record { number = k; at = c.at })) c) (sym e)
+    (record { lent = refl; answer = refl; stands = refl })
+
+-- one program for an equal one
+pub as_of : {A : Type 0} {p q : Steps A} {c c' : Cursor} {r : Result A Refusal} → p ≡ q → Took q c r c' → Took p c r c'
+as_of {c = c} {c' = c'} {r = r} e t = subst (λ p. Took p c r c') (sym e) t
