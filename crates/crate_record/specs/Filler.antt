@@ -1,5 +1,5 @@
 -- The fillers: what stands past a list's length, and the record beside a refusal.
-use Rattle.std.specs.Prelude.{false, replicate}
+use Rattle.std.specs.Prelude.{false, replicate, None}
 use Rattle.timing.specs.Axis.{pixels, lines}
 use Rattle.timing.specs.declared.StereoType.TheVariants as Stereo
 use Rattle.crate_record.specs.Single.{f0}
@@ -13,8 +13,6 @@ use Rattle.crate_record.specs.declared.MonitorDescriptor.TheVariants.{MonitorNam
 use Rattle.crate_record.specs.declared.SyncType.TheVariants.{Composite}
 use Rattle.crate_record.specs.declared.SyncLine.TheVariants.{Green}
 use Rattle.crate_record.specs.declared.VideoInput.TheVariants.{Digital}
-use Rattle.crate_record.specs.declared.MaxSize.TheVariants as Size
-use Rattle.crate_record.specs.declared.Gamma.TheVariants as Gamma
 use Rattle.crate_record.specs.declared.DisplayType.TheVariants.{Monochrome}
 
 abbrev pub blank_white : WhitePoint
@@ -47,8 +45,8 @@ blank = record {
   version = record { version = 0; revision = 0 };
   display = record {
     input = Digital false;
-    size = Size.None;
-    gamma = Gamma.None;
+    size = None;
+    gamma = None;
     dpms = record {
       standby = false;
       suspend = false;

@@ -7,7 +7,7 @@ ghost use Rattle.crate_record.specs.Filler.{blank};
 ghost use Rattle.crate_record.specs.Single.{whole, gamma_of, chroma_of, coordinate, tenths_of, half_of, ratio_of, level_of};
 
 use shared_record::{EstablishedTimings, SupportedSync, Version};
-use steps::{End, Span};
+use steps::{Refusal, Span};
 use timing::{Across, Border, Down, Lines, Pixels, StereoType, SyncPolarity};
 
 // Three 5-bit numbers.
@@ -54,18 +54,6 @@ pub struct ImageSize {
 }
 
 #[derive(Clone, Copy)]
-pub enum MaxSize {
-    None,
-    Some(ImageSize),
-}
-
-#[derive(Clone, Copy)]
-pub enum Gamma {
-    None,
-    Some(f32),
-}
-
-#[derive(Clone, Copy)]
 pub enum DisplayType {
     Monochrome,
     RGBColor,
@@ -87,8 +75,8 @@ pub struct DPMSFeatures {
 #[derive(Clone, Copy)]
 pub struct DisplayParameters {
     pub input: VideoInput,
-    pub size: MaxSize,
-    pub gamma: Gamma,
+    pub size: Option<ImageSize>,
+    pub gamma: Option<f32>,
     pub dpms: DPMSFeatures,
 }
 
@@ -253,11 +241,12 @@ pub struct EDID {
     pub extensions: u8,
 }
 
-// The record, and beside it how its reading ended; the filler where it was refused.
+// The record, and beside it the place behind its bytes or the refusal. It is no Result of a record: beside a refusal `crate_reading::read`
+// promises the filler (`Beside blank`).
 #[derive(Drop)]
 pub struct Reading {
     pub edid: EDID,
-    pub end: End,
+    pub end: Result<usize, Refusal>,
 }
 
 // ---- the fillers: what stands past a list's length, and the record beside a refusal
@@ -324,8 +313,8 @@ const BLANK: EDID = EDID {
     },
     display: DisplayParameters {
         input: VideoInput::Digital { dfp: false },
-        size: MaxSize::None,
-        gamma: Gamma::None,
+        size: None,
+        gamma: None,
         dpms: DPMSFeatures {
             standby: false,
             suspend: false,
