@@ -1,5 +1,4 @@
 -- What the contracts of `crate_text` cite.
 pub mod Text
-pub mod Answers
 pub mod Laws
 pub mod Sizes

@@ -1,7 +1,7 @@
 -- What a read does to a cursor, and reads one after the other.
 use Rattle.std.specs.Prelude.{ℕ, ◌≡◌, refl, Bool, true, false, Result, Ok, Err}
 use Rattle.std.proofs.Common.{sym, ap, subst, ◌∙◌}
-use Rattle.steps.specs.Steps.{Steps, done, ◌>>=◌, run, and_then, ensure}
+use Rattle.steps.specs.Steps.{Steps, done, here, ◌>>=◌, run, and_then, ensure}
 use Rattle.steps.specs.Leaves.{byte, two, four, outcome, Stands}
 use Rattle.steps.specs.Laws.{run_bind, same_run}
 use Rattle.steps.specs.declared.Cursor.{Cursor}
@@ -59,7 +59,10 @@ pub stop_four : {B : Type 0} (g : ℕ → ℕ → ℕ → ℕ → Steps B) {c c'
 unfolding byte four
 stop_four g t e h = stop (λ p. g p.0 p.1 p.2 p.3) t e h
 
--- ---- no byte: a value, a test that holds, a test that fails
+-- ---- no byte: the place, a value, a test that holds, a test that fails
+
+pub at_place : {A : Type 0} (f : ℕ → Steps A) {c c' : Cursor} {r : Result A Refusal} → Took (f c.at) c r c' → Took (here f) c r c'
+at_place f t = record { lent = t.lent; answer = t.answer; stands = t.stands }
 
 pub gives : {A : Type 0} {a : A} {c : Cursor} {r : Result A Refusal} → r ≡ Ok a → Took (done a) c r c
 gives {c = c} e = record {
@@ -81,3 +84,7 @@ fails t k g {c = c} e =
 -- one program for an equal one
 pub as_of : {A : Type 0} {p q : Steps A} {c c' : Cursor} {r : Result A Refusal} → p ≡ q → Took q c r c' → Took p c r c'
 as_of {c = c} {c' = c'} {r = r} e t = subst (λ p. Took p c r c') (sym e) t
+
+-- ---- in a loop: what is left of a program, from where the cursor stands
+abbrev pub Left : {A : Type 0} → Steps A → Cursor → Steps A → Cursor → Type 0
+Left {A} p old q c = (r : Result A Refusal) (new : Cursor) → Took q c r new → Took p old r new

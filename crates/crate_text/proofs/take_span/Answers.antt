@@ -1,14 +1,13 @@
--- `crate_text::take_span` meets its contract: one call, a `step`. Assumes nothing.
-use mathlib.Core.Path.{sym}
-use Rattle.steps.specs.Laws.{step}
-use Rattle.crate_text.specs.Text.{skip, span}
-use Rattle.crate_text.specs.Answers.{of_pass}
+-- `crate_text::take_span` meets its contract: one read. Assumes nothing.
+use Rattle.std.proofs.Common.{rules, refl}
+use Rattle.steps.specs.Took.{then, stop, gives, at_place}
+use Rattle.crate_text.specs.Text.{span}
 use Rattle.crate_text.proofs.take_span.Goals as goal
 
-pub returns-in-Refused : goal.returns-in-Refused
+pub returns-in_err-take_skip : goal.returns-in_err-take_skip
 unfolding span
-returns-in-Refused c = sym (step of_pass (skip _) _ _ _ c.take_skip.ensures c.in-Refused.is)
+returns-in_err-take_skip c = at_place _ (stop _ c.take_skip.ensures c.in_err-take_skip.was (search rules))
 
-pub returns-in-Got : goal.returns-in-Got
+pub returns : goal.returns
 unfolding span
-returns-in-Got c = sym (step of_pass (skip _) _ _ _ c.take_skip.ensures c.in-Got.is)
+returns c = at_place _ (then _ c.take_skip.ensures c.in_ok-take_skip.was (gives refl))

@@ -1,25 +1,17 @@
--- `crate_text::take_text` meets its contract: two calls, each a `step`. Assumes nothing.
-use mathlib.Core.Path.{sym, ◌∙◌}
-use Prim.Native.Nat.{◌-◌}
-use Rattle.steps.specs.Laws.{step}
-use Rattle.crate_text.specs.Text.{scan, padding, text}
-use Rattle.crate_text.specs.Answers.{of_scan, of_pass}
+-- `crate_text::take_text` meets its contract: one read after the other. Assumes nothing.
+use Rattle.std.proofs.Common.{rules, refl}
+use Rattle.steps.specs.Took.{then, stop, gives, at_place}
+use Rattle.crate_text.specs.Text.{text}
 use Rattle.crate_text.proofs.take_text.Goals as goal
 
-pub returns-in-Refused : goal.returns-in-Refused
+pub returns-in_err-len : goal.returns-in_err-len
 unfolding text
-returns-in-Refused c = sym (step of_scan (scan 13 0) _ _ _ c.take_scan.ensures c.in-Refused.is)
+returns-in_err-len c = at_place _ (stop _ c.take_scan.ensures c.in_err-len.was (search rules))
 
-pub returns-in-Refused-take_padding : goal.returns-in-Refused-take_padding
+pub returns-in_err-take_padding : goal.returns-in_err-take_padding
 unfolding text
-returns-in-Refused-take_padding c =
-    sym
-    (step of_scan (scan 13 0) _ _ _ c.take_scan.ensures c.in-Got.is
-    ∙ step of_pass (padding (12 - c.in-Got.n)) _ _ _ c.take_padding.ensures c.in-Refused-take_padding.is)
+returns-in_err-take_padding c = at_place _ (then _ c.take_scan.ensures c.in_ok-len.was (stop _ c.take_padding.ensures c.in_err-take_padding.was (search rules)))
 
-pub returns-in-Got-take_padding : goal.returns-in-Got-take_padding
+pub returns : goal.returns
 unfolding text
-returns-in-Got-take_padding c =
-    sym
-    (step of_scan (scan 13 0) _ _ _ c.take_scan.ensures c.in-Got.is
-    ∙ step of_pass (padding (12 - c.in-Got.n)) _ _ _ c.take_padding.ensures c.in-Got-take_padding.is)
+returns c = at_place _ (then _ c.take_scan.ensures c.in_ok-len.was (then _ c.take_padding.ensures c.in_ok-take_padding.was (gives refl)))
