@@ -19,9 +19,9 @@ use Rattle.crate_record.specs.declared.DPMSFeatures.{DPMSFeatures}
 use Rattle.crate_record.specs.declared.DisplayParameters.{DisplayParameters}
 use Rattle.crate_record.specs.declared.Chromaticities.{Chromaticities}
 use Rattle.crate_record.specs.declared.WhitePoint.{WhitePoint}
-use Rattle.crate_record.specs.declared.WhitePoints.{WhitePoints}
+use Rattle.crate_record.specs.Lists.{WhitePoints}
 use Rattle.crate_record.specs.declared.StandardTiming.{StandardTiming}
-use Rattle.crate_record.specs.declared.StandardTimings.{StandardTimings}
+use Rattle.crate_record.specs.Lists.{StandardTimings}
 use Rattle.crate_record.specs.declared.EDID.{EDID}
 use Rattle.crate_record.specs.declared.Reading.{Reading}
 use Rattle.crate_slot_lines.specs.Short.{detailed_lengths, descriptor_lengths}

@@ -1,6 +1,6 @@
 -- The record of its parts, as the code puts them together: what its private function promises.
 use Rattle.std.specs.Prelude.{ℕ}
-use Rattle.shared_record.specs.declared.EstablishedTimings.{EstablishedTimings}
+use Rattle.shared_record.specs.Established.{EstablishedTimings}
 use Rattle.crate_record.specs.declared.EDID.{EDID}
 use Rattle.crate_head.specs.declared.Front.{Front}
 use Rattle.crate_slots.specs.declared.Lists.{Lists}

@@ -7,7 +7,7 @@ use Rattle.crate_record.specs.declared.WhitePoint.{WhitePoint}
 use Rattle.crate_record.specs.declared.StandardTiming.{StandardTiming}
 use Rattle.crate_record.specs.declared.DetailedTiming.{DetailedTiming}
 use Rattle.crate_record.specs.declared.Chromaticity.{Chromaticity}
-use Rattle.crate_record.specs.declared.Held.{Held}
+use Rattle.crate_record.specs.declared.MonitorDescriptor.{MonitorDescriptor}
 use Rattle.crate_record.specs.declared.EDID.{EDID}
 use Rattle.crate_record.specs.declared.MonitorDescriptor.TheVariants.{MonitorName}
 use Rattle.crate_record.specs.declared.SyncType.TheVariants.{Composite}
@@ -33,8 +33,8 @@ blank_detailed = record {
   sync = Composite false Green;
 }
 
-abbrev pub blank_held : Held
-blank_held = record { descriptor = MonitorName (record { start = 0; len = 0 }) }
+abbrev pub blank_descriptor : MonitorDescriptor
+blank_descriptor = MonitorName (record { start = 0; len = 0 })
 
 abbrev blank_chromaticity : Chromaticity
 blank_chromaticity = record { x = f0; y = f0 }
@@ -66,6 +66,6 @@ blank = record {
     standard = record { items = replicate 26 blank_standard; len = 0 };
     detailed = record { items = replicate 4 blank_detailed; len = 0 };
   };
-  descriptors = record { items = replicate 3 blank_held; len = 0 };
+  descriptors = record { items = replicate 3 blank_descriptor; len = 0 };
   extensions = 0;
 }

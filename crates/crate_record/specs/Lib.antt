@@ -3,5 +3,4 @@ pub mod Single
 pub mod Known
 pub mod Filler
 pub mod Lists
-pub mod Filling
 pub mod Seen

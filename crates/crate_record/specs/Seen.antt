@@ -3,7 +3,7 @@
 use Rattle.std.specs.Prelude.{◌≡◌, List, ℕ, ◌≤◌, length, take}
 use Rattle.fixed.specs.Fixed.{shown_whole}
 use Rattle.shared_record.specs.Established.{established_timings}
-use Rattle.crate_record.specs.Filler.{blank_standard, blank_detailed, blank_white, blank_held}
+use Rattle.crate_record.specs.Filler.{blank_standard, blank_detailed, blank_white, blank_descriptor}
 use Rattle.crate_record.specs.Lists.{standard_timings, detailed_timings, white_points, descriptors}
 use Rattle.crate_record.specs.declared.ProductInformation.{ProductInformation}
 use Rattle.shared_record.specs.declared.Version.{Version}
@@ -12,7 +12,7 @@ use Rattle.crate_record.specs.declared.Chromaticities.{Chromaticities}
 use Rattle.crate_record.specs.declared.WhitePoint.{WhitePoint}
 use Rattle.crate_record.specs.declared.StandardTiming.{StandardTiming}
 use Rattle.crate_record.specs.declared.DetailedTiming.{DetailedTiming}
-use Rattle.crate_record.specs.declared.Held.{Held}
+use Rattle.crate_record.specs.declared.MonitorDescriptor.{MonitorDescriptor}
 use Rattle.crate_record.specs.declared.EDID.{EDID}
 
 pub record Seen : Type 0 where
@@ -24,7 +24,7 @@ pub record Seen : Type 0 where
   pub established : List ℕ
   pub standard : List StandardTiming
   pub detailed : List DetailedTiming
-  pub descriptors : List Held
+  pub descriptors : List MonitorDescriptor
   pub extensions : ℕ
 
 unfoldable pub seen : EDID → Seen
@@ -81,6 +81,6 @@ shows x f = λ i. record {
   established = shown_whole 17 0 x.established f.established i;
   standard = shown_whole 26 blank_standard x.standard f.standard i;
   detailed = shown_whole 4 blank_detailed x.detailed f.detailed i;
-  descriptors = shown_whole 3 blank_held x.descriptors f.descriptors i;
+  descriptors = shown_whole 3 blank_descriptor x.descriptors f.descriptors i;
   extensions = x.extensions;
 }

@@ -6,6 +6,7 @@ ghost use Rattle.std.specs.Prelude.{◌≡◌, ◌%◌};
 ghost use Rattle.crate_record.specs.Filler.{blank};
 ghost use Rattle.crate_record.specs.Single.{whole, gamma_of, chroma_of, coordinate, tenths_of, half_of, ratio_of, level_of};
 
+use fixed::Fixed;
 use shared_record::{EstablishedTimings, SupportedSync, Version};
 use steps::{Refusal, Span};
 use timing::{Across, Border, Down, Lines, Pixels, StereoType, SyncPolarity};
@@ -103,11 +104,7 @@ pub struct WhitePoint {
     pub gamma: f32,
 }
 
-#[derive(Clone, Copy)]
-pub struct WhitePoints {
-    pub items: [WhitePoint; 6],
-    pub len: usize,
-}
+pub type WhitePoints = Fixed<WhitePoint, 6>;
 
 #[derive(Drop)]
 pub struct ColorCharacteristics {
@@ -123,11 +120,7 @@ pub struct StandardTiming {
     pub rate: u16,
 }
 
-#[derive(Clone, Copy)]
-pub struct StandardTimings {
-    pub items: [StandardTiming; 26],
-    pub len: usize,
-}
+pub type StandardTimings = Fixed<StandardTiming, 26>;
 
 #[derive(Clone, Copy)]
 pub enum SyncLine {
@@ -160,11 +153,7 @@ pub struct DetailedTiming {
     pub sync: SyncType,
 }
 
-#[derive(Clone, Copy)]
-pub struct DetailedTimings {
-    pub items: [DetailedTiming; 4],
-    pub len: usize,
-}
+pub type DetailedTimings = Fixed<DetailedTiming, 4>;
 
 #[derive(Drop)]
 pub struct Timings {
@@ -218,17 +207,7 @@ pub enum MonitorDescriptor {
     },
 }
 
-// An array of enums is held through a struct.
-#[derive(Clone, Copy)]
-pub struct Held {
-    pub descriptor: MonitorDescriptor,
-}
-
-#[derive(Drop)]
-pub struct MonitorDescriptors {
-    pub items: [Held; 3],
-    pub len: usize,
-}
+pub type MonitorDescriptors = Fixed<MonitorDescriptor, 3>;
 
 #[derive(Drop)]
 pub struct EDID {
@@ -294,9 +273,10 @@ pub const BLANK_DETAILED: DetailedTiming = DetailedTiming {
     },
 };
 
-pub const BLANK_HELD: Held = Held {
-    descriptor: MonitorDescriptor::MonitorName(Span { start: 0, len: 0 }),
-};
+pub const BLANK_DESCRIPTOR: MonitorDescriptor = MonitorDescriptor::MonitorName(Span {
+    start: 0,
+    len: 0,
+});
 
 const BLANK_CHROMATICITY: Chromaticity = Chromaticity { x: 0.0, y: 0.0 };
 
@@ -352,7 +332,7 @@ const BLANK: EDID = EDID {
         },
     },
     descriptors: MonitorDescriptors {
-        items: [BLANK_HELD; 3],
+        items: [BLANK_DESCRIPTOR; 3],
         len: 0,
     },
     extensions: 0,

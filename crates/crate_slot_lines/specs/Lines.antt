@@ -6,14 +6,14 @@ use Rattle.crate_record.specs.declared.SyncLine.TheVariants.{RGB, Green, Digital
 use Rattle.crate_record.specs.declared.SyncType.{SyncType}
 use Rattle.crate_record.specs.declared.SyncType.TheVariants.{Composite, Separate}
 use Rattle.crate_record.specs.declared.DetailedTiming.{DetailedTiming}
-use Rattle.crate_record.specs.declared.DetailedTimings.{DetailedTimings}
+use Rattle.crate_record.specs.Lists.{DetailedTimings}
 use Rattle.crate_record.specs.declared.Limits.{Limits}
 use Rattle.crate_record.specs.declared.SecondaryTiming.{SecondaryTiming}
 use Rattle.crate_record.specs.declared.SecondaryTiming.TheVariants as Secondary
 use Rattle.crate_record.specs.declared.MonitorDescriptor.{MonitorDescriptor}
 use Rattle.crate_record.specs.declared.MonitorDescriptor.TheVariants.{SerialNumber, OtherString, RangeLimits, MonitorName, Undefined, ManufacturerDefined}
 use Rattle.crate_record.specs.declared.Held.{Held}
-use Rattle.crate_record.specs.declared.MonitorDescriptors.{MonitorDescriptors}
+use Rattle.crate_record.specs.Lists.{MonitorDescriptors}
 
 -- ---- detailed timings
 

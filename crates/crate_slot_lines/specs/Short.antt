@@ -8,14 +8,14 @@ use Rattle.crate_record.specs.declared.SyncLine.TheVariants.{RGB, Green, Digital
 use Rattle.crate_record.specs.declared.SyncType.{SyncType}
 use Rattle.crate_record.specs.declared.SyncType.TheVariants.{Composite, Separate}
 use Rattle.crate_record.specs.declared.DetailedTiming.{DetailedTiming}
-use Rattle.crate_record.specs.declared.DetailedTimings.{DetailedTimings}
+use Rattle.crate_record.specs.Lists.{DetailedTimings}
 use Rattle.crate_record.specs.declared.Limits.{Limits}
 use Rattle.crate_record.specs.declared.SecondaryTiming.{SecondaryTiming}
 use Rattle.crate_record.specs.declared.SecondaryTiming.TheVariants as Secondary
 use Rattle.crate_record.specs.declared.MonitorDescriptor.{MonitorDescriptor}
 use Rattle.crate_record.specs.declared.MonitorDescriptor.TheVariants.{SerialNumber, OtherString, RangeLimits, MonitorName, Undefined, ManufacturerDefined}
 use Rattle.crate_record.specs.declared.Held.{Held}
-use Rattle.crate_record.specs.declared.MonitorDescriptors.{MonitorDescriptors}
+use Rattle.crate_record.specs.Lists.{MonitorDescriptors}
 use Rattle.crate_slot_lines.specs.Lines.{sync, detailed_line, detailed_lines, secondary, range_line, descriptor_line, held_line, descriptor_lines}
 
 sync_length : (t : SyncType) → length (sync t) ≤ 6

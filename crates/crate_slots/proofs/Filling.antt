@@ -7,13 +7,13 @@ use Rattle.steps.specs.Laws.{then_then, then_same}
 use Rattle.crate_record.specs.Lists.{detailed_timings, white_points, push_standard, pushed}
 use Rattle.crate_record.specs.Lists as Record
 use Rattle.crate_record.specs.Filling.{push_detailed, push_point, push_descriptor, push_detailed_lem, push_point_lem, push_descriptor_lem, pushed_append}
-use Rattle.crate_record.specs.declared.StandardTimings.{StandardTimings}
+use Rattle.crate_record.specs.Lists.{StandardTimings}
 use Rattle.crate_record.specs.declared.DetailedTiming.{DetailedTiming}
-use Rattle.crate_record.specs.declared.DetailedTimings.{DetailedTimings}
+use Rattle.crate_record.specs.Lists.{DetailedTimings}
 use Rattle.crate_record.specs.declared.WhitePoint.{WhitePoint}
-use Rattle.crate_record.specs.declared.WhitePoints.{WhitePoints}
+use Rattle.crate_record.specs.Lists.{WhitePoints}
 use Rattle.crate_record.specs.declared.Held.{Held}
-use Rattle.crate_record.specs.declared.MonitorDescriptors.{MonitorDescriptors}
+use Rattle.crate_record.specs.Lists.{MonitorDescriptors}
 use Rattle.crate_timings.specs.Pairs.{pairs}
 use Rattle.crate_timings.specs.Filling.{fill_pairs, pairs_pushed}
 use Rattle.crate_detailed.specs.Detailed.{detailed}

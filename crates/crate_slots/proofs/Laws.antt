@@ -11,7 +11,7 @@ use Rattle.steps.specs.Laws as Turns
 use Rattle.steps.specs.declared.Cursor.{Cursor}
 use Rattle.crate_record.specs.Filling.{push_detailed, push_point, push_descriptor}
 use Rattle.crate_record.specs.declared.StandardTiming.{StandardTiming}
-use Rattle.crate_record.specs.declared.StandardTimings.{StandardTimings}
+use Rattle.crate_record.specs.Lists.{StandardTimings}
 use Rattle.crate_record.specs.declared.DetailedTiming.{DetailedTiming}
 use Rattle.crate_record.specs.declared.WhitePoint.{WhitePoint}
 use Rattle.crate_record.specs.declared.Held.{Held}

@@ -3,7 +3,7 @@ use Rattle.std.specs.Prelude.{ℕ, zero, suc, List, [], ◌∷◌, ◌++◌}
 use Rattle.steps.specs.Steps.{Steps, done, refuse, ◌>>=◌, ◌>>◌}
 use Rattle.crate_record.specs.Lists.{standard_timings, detailed_timings, white_points, descriptors, push_standard, pushed}
 use Rattle.crate_record.specs.declared.StandardTiming.{StandardTiming}
-use Rattle.crate_record.specs.declared.StandardTimings.{StandardTimings}
+use Rattle.crate_record.specs.Lists.{StandardTimings}
 use Rattle.crate_record.specs.declared.DetailedTiming.{DetailedTiming}
 use Rattle.crate_record.specs.declared.WhitePoint.{WhitePoint}
 use Rattle.crate_record.specs.declared.Held.{Held}

@@ -10,11 +10,11 @@ use Rattle.steps.specs.Laws as Turns
 use Rattle.steps.specs.declared.Cursor.{Cursor}
 use Rattle.steps.specs.declared.Refusal.{Refusal}
 use Rattle.shared_record.specs.Established.{established_timings}
-use Rattle.shared_record.specs.declared.EstablishedTimings.{EstablishedTimings}
+use Rattle.shared_record.specs.Established.{EstablishedTimings}
 use Rattle.crate_record.specs.Lists.{standard_timings, push_standard, pushed}
 use Rattle.crate_record.specs.Filling.{standards_behind}
 use Rattle.crate_record.specs.declared.StandardTiming.{StandardTiming}
-use Rattle.crate_record.specs.declared.StandardTimings.{StandardTimings}
+use Rattle.crate_record.specs.Lists.{StandardTimings}
 use Rattle.crate_timings.specs.declared.Pair.{Pair}
 use Rattle.crate_timings.specs.declared.Pair.TheVariants.{Skipped, Listed}
 use Rattle.crate_timings.specs.declared.PairRead.{PairRead}

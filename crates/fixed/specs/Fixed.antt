@@ -3,7 +3,8 @@
 -- `put` and `more` say what a push makes of them; `put-pad` and `more-count`, that a push on the fixed list of xs is the fixed list of xs with
 -- one element more; `shown-pad`, that up to its length the fixed list of xs shows xs.
 use Rattle.std.specs.Prelude.{◌≡◌, refl, List, [], ◌∷◌, ◌++◌, Bool, true, false, cond, ℕ, zero, suc, ◌+◌, ◌<◌, ◌≤◌, ltb, length, set, take}
-use Rattle.std.proofs.Common.{◌∙◌, ap, arith, take_all, lt-ltb, le-ltb}
+use Rattle.std.proofs.Common.{◌∙◌, ap, sym, arith, take_all, lt-ltb, le-ltb, append_assoc, append-nil}
+use Rattle.fixed.specs.declared.Fixed.{Fixed}
 use Prim.Native.Nat.compare
 use Rattle.std.proofs.Math.Dec.{is_le}
 
@@ -92,3 +93,33 @@ module _ {ℓ} {A : Type ℓ} where
   -- and all of xs, where it fits
   pub shown_whole : (n : ℕ) (d : A) (xs : List A) → length xs ≤ n → take (count n xs) (pad n d xs) ≡ xs
   shown_whole n d xs h = shown_pad n d xs ∙ take_all n xs h
+
+-- ---- the list itself
+
+module _ {A : Type 0} where
+  -- of a plain list
+  abbrev pub fixed : (n : ℕ) → A → List A → Fixed A n
+  fixed n d xs = record { items = pad n d xs; len = count n xs }
+
+  -- a push, which a full list does not take
+  unfoldable pub push : (n : ℕ) → Fixed A n → A → Fixed A n
+  push n l v = record { items = put n l.items l.len v; len = more n l.len }
+
+  pub push_fixed : (n : ℕ) (d v : A) (xs : List A) → push n (fixed n d xs) v ≡ fixed n d (xs ++ v ∷ [])
+  unfolding push
+  push_fixed n d v xs = λ i. record { items = put_pad n d v xs i; len = more_count n v xs i }
+
+-- one push after the other, over any element and any holder of a list
+abbrev pub pushed : {L A : Type 0} → (L → A → L) → L → List A → L
+pushed push l [] = l
+pushed push l (x ∷ xs) = pushed push (push l x) xs
+
+pub pushed_append : {L A : Type 0} (push : L → A → L) (l : L) (xs ys : List A) → pushed push (pushed push l xs) ys ≡ pushed push l (xs ++ ys)
+pushed_append push l [] ys = refl
+pushed_append push l (x ∷ xs) ys = pushed_append push (push l x) xs ys
+
+-- elements go behind those that are there
+pub pushed_fixed : {A : Type 0} (n : ℕ) (d : A) (ys xs : List A) → pushed (push n) (fixed n d ys) xs ≡ fixed n d (ys ++ xs)
+pushed_fixed n d ys [] = ap (fixed n d) (sym (append-nil ys))
+pushed_fixed n d ys (x ∷ xs) =
+    ap (λ l. pushed (push n) l xs) (push_fixed n d x ys) ∙ pushed_fixed n d (ys ++ x ∷ []) xs ∙ ap (fixed n d) (append_assoc ys (x ∷ []) xs)

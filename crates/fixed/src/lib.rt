@@ -1,4 +1,25 @@
+// A list in fixed memory: what both readings list, they list in one of these.
 #![tactic(auto)]
 
-// Fixed lists: an array of n elements and a length, with one filler past it. There is no code here: a reader fills a local
-// array of its own. specs/Fixed.antt says what a push makes of the array and the length, specs/Gather.antt what the turns of a loop do.
+ghost use Rattle.std.specs.Prelude.{◌≡◌};
+ghost use Rattle.fixed.specs.Fixed.{push};
+
+// An array and how many of its places are taken; past them stands a filler.
+#[derive(Clone, Copy)]
+pub struct Fixed<T, const N: usize> {
+    pub items: [T; N],
+    pub len: usize,
+}
+
+impl<T: Copy, const N: usize> Fixed<T, N> {
+    // A full list stays as it is.
+    #[tactic(auto, unfolding(crate::specs::Fixed::push))]
+    pub fn push(&mut self, item: T)
+        ensures { self.new ≡ push N self.old item }
+    {
+        if self.len < N {
+            self.items[self.len] = item;
+            self.len += 1;
+        }
+    }
+}

@@ -6,7 +6,7 @@ use Rattle.text_words.specs.Words.{words}
 use Rattle.text_lines.specs.Lines.{lines, counted}
 use Rattle.text_kinds.specs.Kinds.{number_of}
 use Rattle.shared_record.specs.Established.{established_timings}
-use Rattle.shared_record.specs.declared.EstablishedTimings.{EstablishedTimings}
+use Rattle.shared_record.specs.Established.{EstablishedTimings}
 use Rattle.standard_record.specs.Lists.{white_points, standard_timings, detailed_timings, descriptors}
 use Rattle.standard_record.specs.declared.WhitePoints.{WhitePoints}
 use Rattle.standard_record.specs.declared.StandardTimings.{StandardTimings}

@@ -1,12 +1,15 @@
 -- The fixed list of established timings.
 use Rattle.std.specs.Prelude.{ℕ, ◌≤◌, Bool, List, ◌++◌, length}
 use Rattle.std.proofs.Common.{arith, length-append}
-use Rattle.fixed.specs.Fixed.{pad, count}
+use Rattle.fixed.specs.Fixed.{fixed}
 use Rattle.fixed.specs.Gather.{gather, when, when_at_most, gather_at_most}
-use Rattle.shared_record.specs.declared.EstablishedTimings.{EstablishedTimings}
+use Rattle.fixed.specs.declared.Fixed.{Fixed}
+
+abbrev pub EstablishedTimings : Type 0
+EstablishedTimings = Fixed ℕ 17
 
 abbrev pub established_timings : List ℕ → EstablishedTimings
-established_timings xs = record { items = pad 17 0 xs; len = count 17 xs }
+established_timings xs = fixed 17 0 xs
 
 -- sixteen flags and one more fit, whatever says which of them are on
 pub flags_fit : (on : ℕ → Bool) (last : Bool) → length (gather (λ k. when (on k) k) 16 ++ when last 16) ≤ 17

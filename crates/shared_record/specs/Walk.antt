@@ -3,8 +3,7 @@ use Rattle.std.specs.Prelude.{ℕ, ◌+◌, ◌%◌, ◌<◌, ◌≤◌, ◌≡�
 use Rattle.std.proofs.Common.{sym, ap, ◌∙◌, mod-eq_of_lt, arith}
 use Rattle.fixed.specs.Fixed.{pad}
 use Rattle.fixed.specs.Gather.{gather, when, when_at_most, gather_more, gather_at_most, Holds, held_at_most, took, kept}
-use Rattle.shared_record.specs.declared.EstablishedTimings.{EstablishedTimings}
-use Rattle.shared_record.specs.Established.{established_timings}
+use Rattle.shared_record.specs.Established.{EstablishedTimings, established_timings}
 
 -- the array and its length are the record of a plain list
 abbrev Listed : List ℕ → ℕ → List ℕ → Type 0

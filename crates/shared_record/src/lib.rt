@@ -1,5 +1,7 @@
 #![tactic(auto)]
 
+use fixed::Fixed;
+
 // What both records have in common: version, the sync of an analog input, the established timings.
 #[derive(Clone, Copy)]
 pub struct Version {
@@ -17,8 +19,4 @@ pub struct SupportedSync {
 }
 
 // The flags that are set, by their numbers from 0 to 16.
-#[derive(Clone, Copy)]
-pub struct EstablishedTimings {
-    pub items: [u8; 17],
-    pub len: usize,
-}
+pub type EstablishedTimings = Fixed<u8, 17>;

@@ -13,7 +13,7 @@ use lib.Pow.{pow_mono, shl_exact}
 use Rattle.bits.specs.Fields.{bit}
 use Rattle.fixed.specs.Fixed.{shown_whole}
 use Rattle.shared_record.specs.Established.{established_timings, flags_fit}
-use Rattle.shared_record.specs.declared.EstablishedTimings.{EstablishedTimings}
+use Rattle.shared_record.specs.Established.{EstablishedTimings}
 use Rattle.standard_parts.specs.Timings.{flags_of}
 use Rattle.write_head.specs.Flags.{total, WritesFlags, same_list}
 use Rattle.write_head.specs.Totals.{writes_flags}

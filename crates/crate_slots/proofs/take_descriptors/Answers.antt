@@ -3,7 +3,7 @@ use Rattle.std.proofs.Common.{arith, ◌≡◌, refl, sym, ap, ◌∙◌, ℕ, z
 use Rattle.steps.specs.Steps.{done, ◌>>=◌, run, and_then, Outcome, got}
 use Rattle.steps.specs.Laws.{step, same_run, refused_beside}
 use Rattle.steps.specs.declared.Cursor.{Cursor}
-use Rattle.crate_record.specs.declared.StandardTimings.{StandardTimings}
+use Rattle.crate_record.specs.Lists.{StandardTimings}
 use Rattle.crate_text.specs.Answers.{of_pass}
 use Rattle.crate_timings.specs.Filling.{pair_refused, pair_listed, pairs_end, into_room, into_full, skipped}
 use Rattle.crate_detailed.specs.Detailed.{detailed}

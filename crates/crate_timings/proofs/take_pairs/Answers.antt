@@ -4,7 +4,7 @@ use mathlib.Core.List.{[]}
 use Prim.Native.Nat.{ℕ}
 use native.Mathlib.Omega.{arith}
 use Rattle.steps.specs.Laws.{same_run}
-use Rattle.crate_record.specs.declared.StandardTimings.{StandardTimings}
+use Rattle.crate_record.specs.Lists.{StandardTimings}
 use Rattle.crate_record.specs.Lists.{standard_timings}
 use Rattle.crate_timings.specs.Filling.{fill_pairs, pairs_filled, pair_refused, pair_listed, pairs_end, into_room, into_full, skipped}
 use Rattle.crate_timings.proofs.take_pairs.Goals as goal
