@@ -1,67 +1,29 @@
-// The established flags and the standard timings: fixed lists with a length.
+// The established flags and the standard timings.
 #![tactic(auto)]
 
 ghost use Rattle.std.specs.Prelude.{◌≡◌, []};
-ghost use Rattle.steps.specs.Steps.{run, map};
-ghost use Rattle.steps.specs.Leaves.{Beside};
+ghost use Rattle.steps.specs.Steps.{map};
+ghost use Rattle.steps.specs.Took.{Took, with_value};
 ghost use Rattle.shared_record.specs.Established.{established_timings};
 ghost use Rattle.crate_record.specs.Lists.{standard_timings};
 ghost use Rattle.crate_timings.specs.Established.{flags_of, established};
-ghost use Rattle.crate_timings.specs.Pairs.{standard_timing_of, pair_of, pair, pairs};
-ghost use Rattle.crate_timings.specs.Answers.{of_pair};
+ghost use Rattle.crate_timings.specs.Pairs.{standard_timing_of, pair_of, pair, fill_pairs};
 
 use crate_record::{StandardTiming, StandardTimings};
 use shared_record::EstablishedTimings;
-use steps::{ByteRead, Cursor, End, Refusal, TwoRead, WordRead};
+use steps::{Cursor, Refusal};
 
-// The list, and beside it how its reading ended; empty where it was refused.
-#[derive(Drop)]
-pub struct EstablishedRead {
-    pub list: EstablishedTimings,
-    pub end: End,
-}
-
-// What two bytes say: 01 01 is skipped.
-#[derive(Clone, Copy)]
-pub enum Pair {
-    Skipped,
-    Listed(StandardTiming),
-}
-
-#[derive(Clone, Copy)]
-pub enum PairRead {
-    Got(Pair, Cursor),
-    Refused(Refusal),
-}
-
-#[derive(Drop)]
-pub struct PairsRead {
-    pub list: StandardTimings,
-    pub end: End,
-}
-
-fn no_flags() -> EstablishedTimings
-    ensures { result ≡ established_timings [] }
-{
-    EstablishedTimings {
-        items: [0u8; 17],
-        len: 0,
-    }
-}
-
-// One walk over the digits of ft, 0 first: each that is on lists its number. The last flag stands in a byte of its own, and comes behind.
+// Each digit of ft that is on lists its number. The last flag stands in a byte of its own, and comes behind.
 fn established_of(ft: u16, last: u8) -> EstablishedTimings
     ensures { result ≡ established_timings (flags_of ft last) }
 {
     let mut items = [0u8; 17];
     let mut len = 0;
-    let mut k: u8 = 0;
-    while k < 16 {
+    for k in 0..16u8 {
         if bits::is_set16(ft, k) {
             items[len] = k;
             len += 1;
         }
-        k += 1;
     }
     if bits::is_set(last, 7) {
         items[len] = 16;
@@ -70,25 +32,12 @@ fn established_of(ft: u16, last: u8) -> EstablishedTimings
     EstablishedTimings { items, len }
 }
 
-pub fn take_established(c: Cursor, s: &[u8]) -> EstablishedRead
-    ensures { Beside (established_timings []) result.list result.end (run (map established_timings established) s.now c.at) }
+pub fn take_established(c: &mut Cursor) -> Result<EstablishedTimings, Refusal>
+    ensures { Took (map established_timings established) c.old result c.new }
 {
-    match c.word(s) {
-        WordRead::Refused(f) => EstablishedRead {
-            list: no_flags(),
-            end: End::Refused(f),
-        },
-        WordRead::Got(ft, next) => match next.byte(s) {
-            ByteRead::Refused(f) => EstablishedRead {
-                list: no_flags(),
-                end: End::Refused(f),
-            },
-            ByteRead::Got(last, c) => EstablishedRead {
-                list: established_of(ft, last),
-                end: End::At(c),
-            },
-        },
-    }
+    let ft = c.word()?;
+    let last = c.byte()?;
+    Ok(established_of(ft, last))
 }
 
 fn standard_timing_of(low: u8, high: u8) -> StandardTiming
@@ -101,23 +50,23 @@ fn standard_timing_of(low: u8, high: u8) -> StandardTiming
     }
 }
 
-fn pair_of(low: u8, high: u8) -> Pair
+// None where both bytes are 01: the pair is skipped.
+#[tactic(auto, unfolding(crate::specs::Pairs::pair_of))]
+fn pair_of(low: u8, high: u8) -> Option<StandardTiming>
     ensures { result ≡ pair_of low high }
 {
     if low == 1 && high == 1 {
-        Pair::Skipped
+        None
     } else {
-        Pair::Listed(standard_timing_of(low, high))
+        Some(standard_timing_of(low, high))
     }
 }
 
-pub fn take_pair(c: Cursor, s: &[u8]) -> PairRead
-    ensures { of_pair result ≡ run pair s.now c.at }
+pub fn take_pair(c: &mut Cursor) -> Result<Option<StandardTiming>, Refusal>
+    ensures { Took pair c.old result c.new }
 {
-    match c.two(s) {
-        TwoRead::Refused(f) => PairRead::Refused(f),
-        TwoRead::Got(low, high, next) => PairRead::Got(pair_of(low, high), next),
-    }
+    let (low, high) = c.two()?;
+    Ok(pair_of(low, high))
 }
 
 pub fn no_standard() -> StandardTimings
@@ -129,35 +78,14 @@ pub fn no_standard() -> StandardTimings
     }
 }
 
-// The list is a local array that this function alone fills: no call takes or returns it, but for the answer.
-pub fn take_pairs(c: Cursor, s: &[u8], n: usize) -> PairsRead
-    ensures { Beside (standard_timings []) result.list result.end (run (map standard_timings (pairs n)) s.now c.at) }
+// n pairs, each onto the list.
+pub fn take_pairs(c: &mut Cursor, n: usize, list: &mut StandardTimings) -> Result<(), Refusal>
+    ensures { Took (fill_pairs n list.old) c.old (with_value list.new result) c.new }
 {
-    let mut items = [crate_record::BLANK_STANDARD; 26];
-    let mut len = 0;
-    let mut c = c;
-    let mut i = 0;
-    while i < n {
-        let p = match take_pair(c, s) {
-            PairRead::Refused(f) => return PairsRead {
-                list: no_standard(),
-                end: End::Refused(f),
-            },
-            PairRead::Got(p, next) => {
-                c = next;
-                p
-            }
-        };
-        if let Pair::Listed(t) = p {
-            if len < 26 {
-                items[len] = t;
-                len += 1;
-            }
+    for _ in 0..n {
+        if let Some(timing) = take_pair(c)? {
+            list.push(timing);
         }
-        i += 1;
     }
-    PairsRead {
-        list: StandardTimings { items, len },
-        end: End::At(c),
-    }
+    Ok(())
 }

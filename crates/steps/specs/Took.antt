@@ -88,3 +88,12 @@ as_of {c = c} {c' = c'} {r = r} e t = subst (λ p. Took p c r c') (sym e) t
 -- ---- in a loop: what is left of a program, from where the cursor stands
 abbrev pub Left : {A : Type 0} → Steps A → Cursor → Steps A → Cursor → Type 0
 Left {A} p old q c = (r : Result A Refusal) (new : Cursor) → Took q c r new → Took p old r new
+
+-- what a read that fills a lent value answers: that value, as it is then
+abbrev pub with_value : {A : Type 0} → A → Result Unit Refusal → Result A Refusal
+with_value a (Ok t) = Ok a
+with_value a (Err f) = Err f
+
+pub stop_with : {A B : Type 0} {p : Steps A} (g : A → Steps B) (b : B) {c c' : Cursor} {r : Result A Refusal} {f : Refusal} {r' : Result Unit Refusal}
+    → Took p c r c' → r ≡ Err f → r' ≡ Err f → Took (p >>= g) c (with_value b r') c'
+stop_with g b t e h = stop g t e (ap (with_value b) h)

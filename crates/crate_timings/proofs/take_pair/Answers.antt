@@ -1,19 +1,13 @@
--- `crate_timings::take_pair` meets its contract: a chain of reads, each a `step`. Assumes nothing.
-use mathlib.Core.Path.{sym, ap, ◌∙◌}
-use Rattle.steps.specs.Laws.{step_two}
-use Rattle.steps.specs.Steps.{got}
+-- `crate_timings::take_pair` meets its contract: one read. Assumes nothing.
+use Rattle.std.proofs.Common.{rules, ap, Ok}
+use Rattle.steps.specs.Took.{then_two, stop_two, gives}
 use Rattle.crate_timings.specs.Pairs.{pair}
 use Rattle.crate_timings.proofs.take_pair.Goals as goal
 
-pub returns-in-Refused : goal.returns-in-Refused
+pub returns-in_err-low : goal.returns-in_err-low
 unfolding pair
-returns-in-Refused c =
-    sym
-    (step_two _ _ _ c.two.ensures c.in-Refused.is)
+returns-in_err-low c = stop_two _ c.two.ensures c.in_err-low.was (search rules)
 
-pub returns-in-Got : goal.returns-in-Got
+pub returns : goal.returns
 unfolding pair
-returns-in-Got c =
-    ap (λ v. got v c.in-Got.next.at) c.pair_of.ensures
-    ∙ sym
-    (step_two _ _ _ c.two.ensures c.in-Got.is)
+returns c = then_two _ c.two.ensures c.in_ok-low.was (gives (ap Ok c.pair_of.ensures))
