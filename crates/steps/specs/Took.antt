@@ -15,49 +15,48 @@ pub record Took {A : Type 0} (p : Steps A) (old : Cursor) (r : Result A Refusal)
 
 -- ---- one read after the other: the first gives a value, or is refused
 
-after : {A B : Type 0} {p : Steps A} (g : A → Steps B) {c c' : Cursor} {r r' : Result A Refusal} → Took p c r c' → r ≡ r'
-    → run (p >>= g) c.bytes.now c.at ≡ and_then (outcome r' c'.at) (λ a n. run (g a) c.bytes.now n)
-after {p = p} g {c = c} {c' = c'} t e =
-    run_bind p g c.bytes.now c.at ∙ ap (λ o. and_then o (λ a n. run (g a) c.bytes.now n)) (sym t.answer ∙ ap (λ r. outcome r c'.at) e)
+after : {A B : Type 0} {p : Steps A} (g : A → Steps B) {c c' : Cursor} {r : Result A Refusal} → Took p c r c'
+    → run (p >>= g) c.bytes.now c.at ≡ and_then (outcome r c'.at) (λ a n. run (g a) c.bytes.now n)
+after {p = p} g {c = c} t = run_bind p g c.bytes.now c.at ∙ ap (λ o. and_then o (λ a n. run (g a) c.bytes.now n)) (sym t.answer)
 
-pub then : {A B : Type 0} {p : Steps A} (g : A → Steps B) {c c' c'' : Cursor} {r : Result A Refusal} {a : A} {r' : Result B Refusal}
-    → Took p c r c' → r ≡ Ok a → Took (g a) c' r' c'' → Took (p >>= g) c r' c''
-then g {c' = c'} {a = a} t e u = record {
+pub then : {A B : Type 0} {p : Steps A} (g : A → Steps B) {c c' c'' : Cursor} {a : A} {r : Result B Refusal}
+    → Took p c (Ok a) c' → Took (g a) c' r c'' → Took (p >>= g) c r c''
+then g {c' = c'} {a = a} t u = record {
   lent = u.lent ∙ t.lent;
-  answer = u.answer ∙ ap (λ b. run (g a) b.now c'.at) t.lent ∙ sym (after g t e);
+  answer = u.answer ∙ ap (λ b. run (g a) b.now c'.at) t.lent ∙ sym (after g t);
   stands = u.stands;
 }
 
-pub stop : {A B : Type 0} {p : Steps A} (g : A → Steps B) {c c' : Cursor} {r : Result A Refusal} {f : Refusal} {r' : Result B Refusal}
-    → Took p c r c' → r ≡ Err f → r' ≡ Err f → Took (p >>= g) c r' c'
-stop g {c' = c'} {f = f} t e h = record {
+pub stop : {A B : Type 0} {p : Steps A} (g : A → Steps B) {c c' : Cursor} {f : Refusal} {r : Result B Refusal}
+    → Took p c (Err f) c' → r ≡ Err f → Took (p >>= g) c r c'
+stop g {c' = c'} t e = record {
   lent = t.lent;
-  answer = ap (λ r. outcome r c'.at) h ∙ sym (after g t e);
-  stands = subst (λ r. Stands r c'.at) (sym h) (subst (λ r. Stands r c'.at) e t.stands);
+  answer = ap (λ r. outcome r c'.at) e ∙ sym (after g t);
+  stands = subst (λ r. Stands r c'.at) (sym e) t.stands;
 }
 
 -- the same where the code takes two or four bytes at once, and the program one after the other
-pub then_two : {B : Type 0} (g : ℕ → ℕ → Steps B) {c c' c'' : Cursor} {r : Result (ℕ × ℕ) Refusal} {p : ℕ × ℕ} {r' : Result B Refusal}
-    → Took two c r c' → r ≡ Ok p → Took (g p.0 p.1) c' r' c'' → Took (byte >>= (λ a. byte >>= (λ b. g a b))) c r' c''
+pub then_two : {B : Type 0} (g : ℕ → ℕ → Steps B) {c c' c'' : Cursor} {p : ℕ × ℕ} {r : Result B Refusal}
+    → Took two c (Ok p) c' → Took (g p.0 p.1) c' r c'' → Took (byte >>= (λ a. byte >>= (λ b. g a b))) c r c''
 unfolding byte two
-then_two g t e u = then (λ p. g p.0 p.1) t e u
+then_two g t u = then (λ p. g p.0 p.1) t u
 
-pub stop_two : {B : Type 0} (g : ℕ → ℕ → Steps B) {c c' : Cursor} {r : Result (ℕ × ℕ) Refusal} {f : Refusal} {r' : Result B Refusal}
-    → Took two c r c' → r ≡ Err f → r' ≡ Err f → Took (byte >>= (λ a. byte >>= (λ b. g a b))) c r' c'
+pub stop_two : {B : Type 0} (g : ℕ → ℕ → Steps B) {c c' : Cursor} {f : Refusal} {r : Result B Refusal}
+    → Took two c (Err f) c' → r ≡ Err f → Took (byte >>= (λ a. byte >>= (λ b. g a b))) c r c'
 unfolding byte two
-stop_two g t e h = stop (λ p. g p.0 p.1) t e h
+stop_two g t e = stop (λ p. g p.0 p.1) t e
 
-pub then_four : {B : Type 0} (g : ℕ → ℕ → ℕ → ℕ → Steps B) {c c' c'' : Cursor} {r : Result (ℕ × ℕ × ℕ × ℕ) Refusal} {p : ℕ × ℕ × ℕ × ℕ}
-    {r' : Result B Refusal} → Took four c r c' → r ≡ Ok p → Took (g p.0 p.1 p.2 p.3) c' r' c''
-    → Took (byte >>= (λ a. byte >>= (λ b. byte >>= (λ x. byte >>= (λ y. g a b x y))))) c r' c''
+pub then_four : {B : Type 0} (g : ℕ → ℕ → ℕ → ℕ → Steps B) {c c' c'' : Cursor} {p : ℕ × ℕ × ℕ × ℕ} {r : Result B Refusal}
+    → Took four c (Ok p) c' → Took (g p.0 p.1 p.2 p.3) c' r c''
+    → Took (byte >>= (λ a. byte >>= (λ b. byte >>= (λ x. byte >>= (λ y. g a b x y))))) c r c''
 unfolding byte four
-then_four g t e u = then (λ p. g p.0 p.1 p.2 p.3) t e u
+then_four g t u = then (λ p. g p.0 p.1 p.2 p.3) t u
 
-pub stop_four : {B : Type 0} (g : ℕ → ℕ → ℕ → ℕ → Steps B) {c c' : Cursor} {r : Result (ℕ × ℕ × ℕ × ℕ) Refusal} {f : Refusal}
-    {r' : Result B Refusal} → Took four c r c' → r ≡ Err f → r' ≡ Err f
-    → Took (byte >>= (λ a. byte >>= (λ b. byte >>= (λ x. byte >>= (λ y. g a b x y))))) c r' c'
+pub stop_four : {B : Type 0} (g : ℕ → ℕ → ℕ → ℕ → Steps B) {c c' : Cursor} {f : Refusal} {r : Result B Refusal}
+    → Took four c (Err f) c' → r ≡ Err f
+    → Took (byte >>= (λ a. byte >>= (λ b. byte >>= (λ x. byte >>= (λ y. g a b x y))))) c r c'
 unfolding byte four
-stop_four g t e h = stop (λ p. g p.0 p.1 p.2 p.3) t e h
+stop_four g t e = stop (λ p. g p.0 p.1 p.2 p.3) t e
 
 -- ---- no byte: the place, a value, a test that holds, a test that fails
 
@@ -94,6 +93,6 @@ abbrev pub with_value : {A : Type 0} → A → Result Unit Refusal → Result A 
 with_value a (Ok t) = Ok a
 with_value a (Err f) = Err f
 
-pub stop_with : {A B : Type 0} {p : Steps A} (g : A → Steps B) (b : B) {c c' : Cursor} {r : Result A Refusal} {f : Refusal} {r' : Result Unit Refusal}
-    → Took p c r c' → r ≡ Err f → r' ≡ Err f → Took (p >>= g) c (with_value b r') c'
-stop_with g b t e h = stop g t e (ap (with_value b) h)
+pub stop_with : {A B : Type 0} {p : Steps A} (g : A → Steps B) (b : B) {c c' : Cursor} {f : Refusal} {r : Result Unit Refusal}
+    → Took p c (Err f) c' → r ≡ Err f → Took (p >>= g) c (with_value b r) c'
+stop_with g b t e = stop g t (ap (with_value b) e)

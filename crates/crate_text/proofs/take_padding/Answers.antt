@@ -9,17 +9,17 @@ loop-init c = λ r new t. t
 
 pub returns-in_err-byte : goal.returns-in_err-byte
 returns-in_err-byte c =
-    c.loop.invariant _ _ (as_of (padding_more _ c.loop-test.true) (stop _ c.byte.ensures c.in_err-byte.was (search rules)))
+    c.loop.invariant _ _ (as_of (padding_more _ c.loop-test.true) (stop _ c.in_err-byte.ensures (search rules)))
 
 pub returns-then-branch-ne32 : goal.returns-then-branch-ne32
 returns-then-branch-ne32 c =
     c.loop.invariant _ _ (as_of (padding_more _ c.loop-test.true)
-    (then _ c.byte.ensures c.in_ok-byte.was (fails _ 5 _ (ne_eqb _ _ c.if-branch-ne32.true))))
+    (then _ c.in_ok-byte.ensures (fails _ 5 _ (ne_eqb _ _ c.if-branch-ne32.true))))
 
 pub loop-preserved : goal.loop-preserved
 loop-preserved c = λ r new t.
     c.loop.invariant _ _ (as_of (padding_more _ c.loop-test.true)
-    (then _ c.byte.ensures c.in_ok-byte.was (holds _ 5 _ (eq-eqb _ _ c.if-branch-ne32.false) t)))
+    (then _ c.in_ok-byte.ensures (holds _ 5 _ (eq-eqb _ _ c.if-branch-ne32.false) t)))
 
 pub returns : goal.returns
 returns c = c.loop.invariant _ _ (as_of (padding_end _ c.loop-test.false) (gives refl))

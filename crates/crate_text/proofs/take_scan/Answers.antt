@@ -10,17 +10,17 @@ loop-i-init c = λ r new t. t
 
 pub returns-in_err-byte : goal.returns-in_err-byte
 returns-in_err-byte c =
-    c.loop-i.invariant _ _ (as_of (scan_more _ c.loop-i-test.true) (stop _ c.byte.ensures c.in_err-byte.was (search rules)))
+    c.loop-i.invariant _ _ (as_of (scan_more _ c.loop-i-test.true) (stop _ c.in_err-byte.ensures (search rules)))
 
 pub returns-then-branch-eq10 : goal.returns-then-branch-eq10
 returns-then-branch-eq10 c =
     c.loop-i.invariant _ _ (as_of (scan_more _ c.loop-i-test.true)
-    (then _ c.byte.ensures c.in_ok-byte.was (as_of (picked _ _ _ (eq-eqb _ _ c.if-branch-eq10.true)) (gives refl))))
+    (then _ c.in_ok-byte.ensures (as_of (picked _ _ _ (eq-eqb _ _ c.if-branch-eq10.true)) (gives refl))))
 
 pub loop-i-preserved : goal.loop-i-preserved
 loop-i-preserved c = λ r new t.
     c.loop-i.invariant _ _ (as_of (scan_more _ c.loop-i-test.true)
-    (then _ c.byte.ensures c.in_ok-byte.was (as_of (picked_not _ _ _ (ne_eqb _ _ c.if-branch-eq10.false)) t)))
+    (then _ c.in_ok-byte.ensures (as_of (picked_not _ _ _ (ne_eqb _ _ c.if-branch-eq10.false)) t)))
 
 pub returns : goal.returns
 returns c = c.loop-i.invariant _ _ (as_of (scan_end _ c.loop-i-test.false) (gives (ap (λ (n : ℕ). Ok n) (omega (arith, c.loop-i.auto.i-end)))))

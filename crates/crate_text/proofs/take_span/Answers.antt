@@ -6,8 +6,8 @@ use Rattle.crate_text.proofs.take_span.Goals as goal
 
 pub returns-in_err-take_skip : goal.returns-in_err-take_skip
 unfolding span
-returns-in_err-take_skip c = at_place _ (stop _ c.take_skip.ensures c.in_err-take_skip.was (search rules))
+returns-in_err-take_skip c = at_place _ (stop _ c.in_err-take_skip.ensures (search rules))
 
 pub returns : goal.returns
 unfolding span
-returns c = at_place _ (then _ c.take_skip.ensures c.in_ok-take_skip.was (gives refl))
+returns c = at_place _ (then _ c.in_ok-take_skip.ensures (gives refl))

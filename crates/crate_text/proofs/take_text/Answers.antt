@@ -6,12 +6,12 @@ use Rattle.crate_text.proofs.take_text.Goals as goal
 
 pub returns-in_err-len : goal.returns-in_err-len
 unfolding text
-returns-in_err-len c = at_place _ (stop _ c.take_scan.ensures c.in_err-len.was (search rules))
+returns-in_err-len c = at_place _ (stop _ c.in_err-len.ensures (search rules))
 
 pub returns-in_err-take_padding : goal.returns-in_err-take_padding
 unfolding text
-returns-in_err-take_padding c = at_place _ (then _ c.take_scan.ensures c.in_ok-len.was (stop _ c.take_padding.ensures c.in_err-take_padding.was (search rules)))
+returns-in_err-take_padding c = at_place _ (then _ c.in_ok-len.ensures (stop _ c.in_err-take_padding.ensures (search rules)))
 
 pub returns : goal.returns
 unfolding text
-returns c = at_place _ (then _ c.take_scan.ensures c.in_ok-len.was (then _ c.take_padding.ensures c.in_ok-take_padding.was (gives refl)))
+returns c = at_place _ (then _ c.in_ok-len.ensures (then _ c.in_ok-take_padding.ensures (gives refl)))

@@ -6,8 +6,8 @@ use Rattle.crate_timings.proofs.take_pair.Goals as goal
 
 pub returns-in_err-low : goal.returns-in_err-low
 unfolding pair
-returns-in_err-low c = stop_two _ c.two.ensures c.in_err-low.was (search rules)
+returns-in_err-low c = stop_two _ c.in_err-low.ensures (search rules)
 
 pub returns : goal.returns
 unfolding pair
-returns c = then_two _ c.two.ensures c.in_ok-low.was (gives (ap Ok c.pair_of.ensures))
+returns c = then_two _ c.in_ok-low.ensures (gives (ap Ok c.pair_of.ensures))

@@ -8,7 +8,7 @@ use Rattle.crate_timings.proofs.take_pairs.Goals.{in-Some, in_default}
 
 pub returns-in_err-timing : goal.returns-in_err-timing
 returns-in_err-timing c =
-    c.loop.invariant _ _ (as_of (more _ _ _ c.loop-test.true) (stop_with _ _ c.take_pair.ensures c.in_err-timing.was (search rules)))
+    c.loop.invariant _ _ (as_of (more _ _ _ c.loop-test.true) (stop_with _ _ c.in_err-timing.ensures (search rules)))
 
 pub loop-preserved : goal.loop-preserved
 loop-preserved c = λ r new t.
@@ -18,7 +18,7 @@ loop-preserved c = λ r new t.
       | in_default w ↦ ap (with_pair c.loop.list) w.in_default.is ∙ sym w.list-is
     ]
     in
-    c.loop.invariant _ _ (as_of (more _ _ _ c.loop-test.true) (then _ c.take_pair.ensures c.in_ok-timing.was (as_of (ap (fill_pairs _) into) t)))
+    c.loop.invariant _ _ (as_of (more _ _ _ c.loop-test.true) (then _ c.in_ok-timing.ensures (as_of (ap (fill_pairs _) into) t)))
 
 pub returns : goal.returns
 returns c = c.loop.invariant _ _ (as_of (no_more _ _ _ c.loop-test.false) (gives refl))

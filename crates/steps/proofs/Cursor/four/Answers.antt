@@ -6,12 +6,12 @@ use Rattle.steps.proofs.Cursor.four.Goals as goal
 
 pub returns-in_err-a : goal.returns-in_err-a
 unfolding four
-returns-in_err-a c = stop_two _ c.two.ensures c.in_err-a.was (search rules)
+returns-in_err-a c = stop_two _ c.in_err-a.ensures (search rules)
 
 pub returns-in_err-x : goal.returns-in_err-x
 unfolding four
-returns-in_err-x c = then_two _ c.two.ensures c.in_ok-a.was (stop_two _ c.two-2.ensures c.in_err-x.was (search rules))
+returns-in_err-x c = then_two _ c.in_ok-a.ensures (stop_two _ c.in_err-x.ensures (search rules))
 
 pub returns : goal.returns
 unfolding four
-returns c = then_two _ c.two.ensures c.in_ok-a.was (then_two _ c.two-2.ensures c.in_ok-x.was (gives refl))
+returns c = then_two _ c.in_ok-a.ensures (then_two _ c.in_ok-x.ensures (gives refl))

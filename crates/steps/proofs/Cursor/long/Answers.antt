@@ -6,12 +6,12 @@ use Rattle.steps.proofs.Cursor.long.Goals as goal
 
 pub returns-in_err-low : goal.returns-in_err-low
 unfolding long
-returns-in_err-low c = stop _ c.word.ensures c.in_err-low.was (search rules)
+returns-in_err-low c = stop _ c.in_err-low.ensures (search rules)
 
 pub returns-in_err-high : goal.returns-in_err-high
 unfolding long
-returns-in_err-high c = then _ c.word.ensures c.in_ok-low.was (stop _ c.word-2.ensures c.in_err-high.was (search rules))
+returns-in_err-high c = then _ c.in_ok-low.ensures (stop _ c.in_err-high.ensures (search rules))
 
 pub returns : goal.returns
 unfolding long
-returns c = then _ c.word.ensures c.in_ok-low.was (then _ c.word-2.ensures c.in_ok-high.was (gives (ap Ok c.long.ensures)))
+returns c = then _ c.in_ok-low.ensures (then _ c.in_ok-high.ensures (gives (ap Ok c.long.ensures)))

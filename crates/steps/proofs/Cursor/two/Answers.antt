@@ -6,12 +6,12 @@ use Rattle.steps.proofs.Cursor.two.Goals as goal
 
 pub returns-in_err-first : goal.returns-in_err-first
 unfolding two
-returns-in_err-first c = stop _ c.byte.ensures c.in_err-first.was (search rules)
+returns-in_err-first c = stop _ c.in_err-first.ensures (search rules)
 
 pub returns-in_err-second : goal.returns-in_err-second
 unfolding two
-returns-in_err-second c = then _ c.byte.ensures c.in_ok-first.was (stop _ c.byte-2.ensures c.in_err-second.was (search rules))
+returns-in_err-second c = then _ c.in_ok-first.ensures (stop _ c.in_err-second.ensures (search rules))
 
 pub returns : goal.returns
 unfolding two
-returns c = then _ c.byte.ensures c.in_ok-first.was (then _ c.byte-2.ensures c.in_ok-second.was (gives refl))
+returns c = then _ c.in_ok-first.ensures (then _ c.in_ok-second.ensures (gives refl))

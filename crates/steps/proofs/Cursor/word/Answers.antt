@@ -6,8 +6,8 @@ use Rattle.steps.proofs.Cursor.word.Goals as goal
 
 pub returns-in_err-low : goal.returns-in_err-low
 unfolding word
-returns-in_err-low c = stop_two _ c.two.ensures c.in_err-low.was (search rules)
+returns-in_err-low c = stop_two _ c.in_err-low.ensures (search rules)
 
 pub returns : goal.returns
 unfolding word
-returns c = then_two _ c.two.ensures c.in_ok-low.was (gives (ap Ok c.word.ensures))
+returns c = then_two _ c.in_ok-low.ensures (gives (ap Ok c.word.ensures))
