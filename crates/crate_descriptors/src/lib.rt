@@ -184,6 +184,7 @@ fn take_range(c: &mut Cursor) -> Result<Slot, Refusal>
     Ok(Slot::Described(MonitorDescriptor::RangeLimits { limits, secondary }))
 }
 
+#[tactic(auto, unfolding(crate::specs::Descriptors::string_of))]
 fn string_of(tag: u8, t: Span) -> MonitorDescriptor
     ensures { result ≡ string_of tag t }
 {
