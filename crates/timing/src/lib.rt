@@ -2,19 +2,19 @@
 // Bytes are named by their place in the 18 of a timing: b2 is the third.
 #![tactic(auto)]
 
-ghost use Rattle.std.specs.Prelude.{◌≡◌};
-ghost use Rattle.timing.specs.Axis.{back_porch, pixels_left, lines_left, across_of, down_of};
+ghost use Rattle.std.specs.Prelude.{ℕ, ◌≡◌, option_map};
+ghost use Rattle.timing.specs.Axis.{pixels, pixels_in, lines, lines_in, back_porch, across_of, down_of};
 ghost use Rattle.timing.specs.Rest.{clock_of, size_of, border_of, polarity_of, stereo_by, stereo_of};
 
-// A sum of pixels and lines does not compile: the two are different types, and what is computed of them is a method of each.
-#[derive(Clone, Copy)]
+// A sum of pixels and lines does not compile: the two are different types, and what is computed of both is generic over `Length`.
+#[derive(Clone, Copy, PartialEq, Eq, Debug)]
 pub struct Pixels(pub u16);
 
-#[derive(Clone, Copy)]
+#[derive(Clone, Copy, PartialEq, Eq, Debug)]
 pub struct Lines(pub u16);
 
 // One axis: its blanking is front porch, sync and back porch, in that order.
-#[derive(Clone, Copy)]
+#[derive(Clone, Copy, PartialEq, Eq, Debug)]
 pub struct Across {
     pub active: Pixels,
     pub front: Pixels,
@@ -22,7 +22,7 @@ pub struct Across {
     pub back: Pixels,
 }
 
-#[derive(Clone, Copy)]
+#[derive(Clone, Copy, PartialEq, Eq, Debug)]
 pub struct Down {
     pub active: Lines,
     pub front: Lines,
@@ -30,57 +30,26 @@ pub struct Down {
     pub back: Lines,
 }
 
-// What is left of a blanking, in numbers, pixels and lines. `Over`: sync and front porch exceed it.
-#[derive(Clone, Copy)]
-enum BackPorch {
-    Left(u16),
-    Over,
-}
-
-#[derive(Clone, Copy)]
-enum PixelsLeft {
-    Left(Pixels),
-    Over,
-}
-
-#[derive(Clone, Copy)]
-enum LinesLeft {
-    Left(Lines),
-    Over,
-}
-
-#[derive(Clone, Copy)]
-pub enum AcrossRead {
-    Fits(Across),
-    Over,
-}
-
-#[derive(Clone, Copy)]
-pub enum DownRead {
-    Fits(Down),
-    Over,
-}
-
 // In millimetres.
-#[derive(Clone, Copy)]
+#[derive(Clone, Copy, PartialEq, Eq, Debug)]
 pub struct Size {
     pub width: u16,
     pub height: u16,
 }
 
-#[derive(Clone, Copy)]
+#[derive(Clone, Copy, PartialEq, Eq, Debug)]
 pub struct Border {
     pub across: Pixels,
     pub down: Lines,
 }
 
-#[derive(Clone, Copy)]
+#[derive(Clone, Copy, PartialEq, Eq, Debug)]
 pub enum SyncPolarity {
     Positive,
     Negative,
 }
 
-#[derive(Clone, Copy)]
+#[derive(Clone, Copy, PartialEq, Eq, Debug)]
 pub enum StereoType {
     None,
     SequentialRightSync,
@@ -91,78 +60,91 @@ pub enum StereoType {
     SideBySide,
 }
 
-// One rule for both axes: what sync and front porch leave of the blanking.
-fn back_porch(blanking: u16, front: u16, sync: u16) -> BackPorch
-    ensures { result ≡ back_porch blanking front sync }
+// A length along one axis, in that axis's own unit.
+trait Length: Copy {
+    ghost in_unit: { ℕ → Self };
+
+    ghost in_number: { Self → ℕ };
+
+    fn of(n: u16) -> Self
+        ensures { result ≡ in_unit n };
+
+    fn number(self) -> u16
+        ensures { result ≡ in_number self };
+}
+
+impl Length for Pixels {
+    ghost in_unit = { pixels };
+
+    ghost in_number = { pixels_in };
+
+    fn of(n: u16) -> Pixels {
+        Pixels(n)
+    }
+
+    fn number(self) -> u16 {
+        self.0
+    }
+}
+
+impl Length for Lines {
+    ghost in_unit = { lines };
+
+    ghost in_number = { lines_in };
+
+    fn of(n: u16) -> Lines {
+        Lines(n)
+    }
+
+    fn number(self) -> u16 {
+        self.0
+    }
+}
+
+// One rule for both axes: what sync and front porch leave of the blanking. None: they exceed it.
+#[tactic(auto, unfolding(crate::specs::Axis::back_porch))]
+fn back_porch<L: Length>(blanking: L, front: L, sync: L) -> Option<L>
+    ensures { result ≡ option_map L.in_unit (back_porch (L.in_number blanking) (L.in_number front) (L.in_number sync)) }
 {
-    if blanking < sync {
-        return BackPorch::Over;
-    }
-    let rest = blanking - sync;
-    if rest < front {
-        return BackPorch::Over;
-    }
-    BackPorch::Left(rest - front)
+    let rest = blanking.number().checked_sub(sync.number())?;
+    let left = rest.checked_sub(front.number())?;
+    Some(L::of(left))
 }
 
-impl Pixels {
-    // What sync and front porch leave of this blanking.
-    fn back_porch(self, front: Pixels, sync: Pixels) -> PixelsLeft
-        ensures { result ≡ pixels_left (back_porch self.0 front.0 sync.0) }
-    {
-        match back_porch(self.0, front.0, sync.0) {
-            BackPorch::Over => PixelsLeft::Over,
-            BackPorch::Left(n) => PixelsLeft::Left(Pixels(n)),
-        }
-    }
-}
-
-impl Lines {
-    // The same, of lines.
-    fn back_porch(self, front: Lines, sync: Lines) -> LinesLeft
-        ensures { result ≡ lines_left (back_porch self.0 front.0 sync.0) }
-    {
-        match back_porch(self.0, front.0, sync.0) {
-            BackPorch::Over => LinesLeft::Over,
-            BackPorch::Left(n) => LinesLeft::Left(Lines(n)),
-        }
-    }
-}
-
-pub fn across_of(b2: u8, b3: u8, b4: u8, b8: u8, b9: u8, b11: u8) -> AcrossRead
+// None: sync and front porch exceed the blanking.
+#[tactic(auto, unfolding(crate::specs::Axis::across_of))]
+pub fn across_of(b2: u8, b3: u8, b4: u8, b8: u8, b9: u8, b11: u8) -> Option<Across>
     ensures { result ≡ across_of b2 b3 b4 b8 b9 b11 }
 {
     let active = Pixels(bits::word(b2, bits::digits(b4, 4, 4)));
     let blanking = Pixels(bits::word(b3, bits::digits(b4, 0, 4)));
     let front = Pixels(bits::word(b8, bits::digits(b11, 6, 2)));
     let sync = Pixels(bits::word(b9, bits::digits(b11, 4, 2)));
-    match blanking.back_porch(front, sync) {
-        PixelsLeft::Over => AcrossRead::Over,
-        PixelsLeft::Left(back) => AcrossRead::Fits(Across {
-            active,
-            front,
-            sync,
-            back,
-        }),
-    }
+    let back = back_porch(blanking, front, sync)?;
+    Some(Across {
+        active,
+        front,
+        sync,
+        back,
+    })
 }
 
-pub fn down_of(b5: u8, b6: u8, b7: u8, b10: u8, b11: u8) -> DownRead
+// The same of the lines.
+#[tactic(auto, using(bits::specs::Laws::digits_under), unfolding(crate::specs::Axis::down_of))]
+pub fn down_of(b5: u8, b6: u8, b7: u8, b10: u8, b11: u8) -> Option<Down>
     ensures { result ≡ down_of b5 b6 b7 b10 b11 }
 {
     let active = Lines(bits::word(b5, bits::digits(b7, 4, 4)));
     let blanking = Lines(bits::word(b6, bits::digits(b7, 0, 4)));
     let front = Lines(bits::stack(bits::digits(b11, 2, 2), bits::digits(b10, 4, 4), 4));
     let sync = Lines(bits::stack(bits::digits(b11, 0, 2), bits::digits(b10, 0, 4), 4));
-    match blanking.back_porch(front, sync) {
-        LinesLeft::Over => DownRead::Over,
-        LinesLeft::Left(back) => DownRead::Fits(Down {
-            active,
-            front,
-            sync,
-            back,
-        }),
-    }
+    let back = back_porch(blanking, front, sync)?;
+    Some(Down {
+        active,
+        front,
+        sync,
+        back,
+    })
 }
 
 // In Hz, from the stored word of 10 kHz.
@@ -204,30 +186,14 @@ pub fn polarity_of(positive: bool) -> SyncPolarity
 fn stereo_by(six: bool, five: bool, zero: bool) -> StereoType
     ensures { result ≡ stereo_by six five zero }
 {
-    if six {
-        if five {
-            if zero {
-                StereoType::SideBySide
-            } else {
-                StereoType::Interleaved4Way
-            }
-        } else {
-            if zero {
-                StereoType::InterleavedLinesLeftEven
-            } else {
-                StereoType::SequentialLeftSync
-            }
-        }
-    } else {
-        if five {
-            if zero {
-                StereoType::InterleavedLinesRightEven
-            } else {
-                StereoType::SequentialRightSync
-            }
-        } else {
-            StereoType::None
-        }
+    match (six, five, zero) {
+        (false, false, _) => StereoType::None,
+        (false, true, false) => StereoType::SequentialRightSync,
+        (true, false, false) => StereoType::SequentialLeftSync,
+        (false, true, true) => StereoType::InterleavedLinesRightEven,
+        (true, false, true) => StereoType::InterleavedLinesLeftEven,
+        (true, true, false) => StereoType::Interleaved4Way,
+        (true, true, true) => StereoType::SideBySide,
     }
 }
 
