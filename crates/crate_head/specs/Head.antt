@@ -1,5 +1,5 @@
 -- The block's first 35 bytes, as the source reads them.
-use Rattle.std.specs.Prelude.{ℕ, ◌+◌, ◌||◌, cond, eqb}
+use Rattle.std.specs.Prelude.{ℕ, ◌+◌, ◌||◌, cond, eqb, Option, None, Some, Float}
 use Rattle.bits.specs.Fields.{digits, bit, by_code}
 use Rattle.steps.specs.Steps.{Steps, done, ◌>>=◌, ◌>>◌, ensure}
 use Rattle.steps.specs.Leaves.{byte, word, long}
@@ -10,10 +10,7 @@ use Rattle.crate_record.specs.declared.ProductInformation.{ProductInformation}
 use Rattle.shared_record.specs.declared.Version.{Version}
 use Rattle.crate_record.specs.declared.VideoInput.{VideoInput}
 use Rattle.crate_record.specs.declared.VideoInput.TheVariants.{Analog, Digital}
-use Rattle.crate_record.specs.declared.MaxSize.{MaxSize}
-use Rattle.crate_record.specs.declared.MaxSize.TheVariants as Size
-use Rattle.crate_record.specs.declared.Gamma.{Gamma}
-use Rattle.crate_record.specs.declared.Gamma.TheVariants as G
+use Rattle.crate_record.specs.declared.ImageSize.{ImageSize}
 use Rattle.crate_record.specs.declared.DisplayType.{DisplayType}
 use Rattle.crate_record.specs.declared.DisplayType.TheVariants.{Monochrome, RGBColor, OtherColor, Undefined}
 use Rattle.crate_record.specs.declared.DPMSFeatures.{DPMSFeatures}
@@ -73,11 +70,11 @@ input = do
   val ← byte
   done (input_of val)
 
-unfoldable pub size_of : ℕ → ℕ → MaxSize
-size_of w h = cond (eqb w 0 || eqb h 0) Size.None (Size.Some (record { width = whole w; height = whole h }))
+unfoldable pub size_of : ℕ → ℕ → Option ImageSize
+size_of w h = cond (eqb w 0 || eqb h 0) None (Some (record { width = whole w; height = whole h }))
 
-unfoldable pub gamma_from : ℕ → Gamma
-gamma_from val = cond (eqb val 0xff) G.None (G.Some (gamma_of val))
+unfoldable pub gamma_from : ℕ → Option Float
+gamma_from val = cond (eqb val 0xff) None (Some (gamma_of val))
 
 abbrev pub kind_of : ℕ → DisplayType
 kind_of code = by_code code Monochrome RGBColor OtherColor Undefined

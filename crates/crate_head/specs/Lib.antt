@@ -1,4 +1,3 @@
 -- What the contracts of `crate_head` cite.
 pub mod Head
-pub mod Answers
 pub mod Sizes

@@ -2,16 +2,15 @@
 #![tactic(auto)]
 
 ghost use Rattle.std.specs.Prelude.{◌≡◌};
-ghost use Rattle.steps.specs.Steps.{run};
+ghost use Rattle.steps.specs.Took.{Took};
 ghost use Rattle.crate_head.specs.Head.{header, maker_of, maker, date, product, version, input_of, input, size_of, gamma_from, kind_of, dpms_of, dpms, display, color, front};
-ghost use Rattle.crate_head.specs.Answers.{of_header, of_maker, of_date, of_product, of_version, of_input, of_dpms, of_display, of_color, of_front};
 
 use crate_record::{
-    Chromaticities, Chromaticity, DPMSFeatures, DisplayParameters, DisplayType, Gamma, ImageSize,
-    ManufactureDate, ManufacturerID, MaxSize, ProductInformation, VideoInput,
+    Chromaticities, Chromaticity, DPMSFeatures, DisplayParameters, DisplayType, ImageSize,
+    ManufactureDate, ManufacturerID, ProductInformation, VideoInput,
 };
 use shared_record::{SupportedSync, Version};
-use steps::{ByteRead, Cursor, FourRead, LongRead, Refusal, TwoRead, WordRead};
+use steps::{Cursor, Refusal};
 
 // All of it.
 #[derive(Clone, Copy)]
@@ -22,98 +21,25 @@ pub struct Front {
     pub basic: Chromaticities,
 }
 
-#[derive(Clone, Copy)]
-pub enum HeaderRead {
-    Got(Cursor),
-    Refused(Refusal),
-}
-
-#[derive(Clone, Copy)]
-pub enum MakerRead {
-    Got(ManufacturerID, Cursor),
-    Refused(Refusal),
-}
-
-#[derive(Clone, Copy)]
-pub enum DateRead {
-    Got(ManufactureDate, Cursor),
-    Refused(Refusal),
-}
-
-#[derive(Clone, Copy)]
-pub enum ProductRead {
-    Got(ProductInformation, Cursor),
-    Refused(Refusal),
-}
-
-#[derive(Clone, Copy)]
-pub enum VersionRead {
-    Got(Version, Cursor),
-    Refused(Refusal),
-}
-
-#[derive(Clone, Copy)]
-pub enum InputRead {
-    Got(VideoInput, Cursor),
-    Refused(Refusal),
-}
-
-#[derive(Clone, Copy)]
-pub enum DpmsRead {
-    Got(DPMSFeatures, Cursor),
-    Refused(Refusal),
-}
-
-#[derive(Clone, Copy)]
-pub enum DisplayRead {
-    Got(DisplayParameters, Cursor),
-    Refused(Refusal),
-}
-
-#[derive(Clone, Copy)]
-pub enum ColorRead {
-    Got(Chromaticities, Cursor),
-    Refused(Refusal),
-}
-
-#[derive(Clone, Copy)]
-pub enum FrontRead {
-    Got(Front, Cursor),
-    Refused(Refusal),
-}
-
 // Two fields of four bytes; each is judged once it is taken.
-pub fn take_header(c: Cursor, s: &[u8]) -> HeaderRead
-    ensures { of_header result ≡ run header s.now c.at }
+pub fn take_header(c: &mut Cursor) -> Result<(), Refusal>
+    ensures { Took header c.old result c.new }
 {
-    let mut c = c;
-    let a = match c.long(s) {
-        LongRead::Refused(f) => return HeaderRead::Refused(f),
-        LongRead::Got(l, next) => {
-            c = next;
-            l
-        }
-    };
+    let a = c.long()?;
     if a != 0xffffff00 {
-        return HeaderRead::Refused(Refusal {
+        return Err(Refusal {
             number: 2,
             at: c.at,
         });
     }
-    let b = match c.long(s) {
-        LongRead::Refused(f) => return HeaderRead::Refused(f),
-        LongRead::Got(l, next) => {
-            c = next;
-            l
-        }
-    };
+    let b = c.long()?;
     if b != 0x00ffffff {
-        return HeaderRead::Refused(Refusal {
+        return Err(Refusal {
             number: 2,
             at: c.at,
         });
     }
-    HeaderRead::Got(c)
+    Ok(())
 }
 
 fn maker_of(k: u16) -> ManufacturerID
@@ -125,81 +51,42 @@ fn maker_of(k: u16) -> ManufacturerID
     ManufacturerID(c1, c2, c3)
 }
 
-fn take_maker(c: Cursor, s: &[u8]) -> MakerRead
-    ensures { of_maker result ≡ run maker s.now c.at }
+fn take_maker(c: &mut Cursor) -> Result<ManufacturerID, Refusal>
+    ensures { Took maker c.old result c.new }
 {
-    match c.word(s) {
-        WordRead::Refused(f) => MakerRead::Refused(f),
-        WordRead::Got(k, next) => MakerRead::Got(maker_of(k), next),
-    }
+    let k = c.word()?;
+    Ok(maker_of(k))
 }
 
-fn take_date(c: Cursor, s: &[u8]) -> DateRead
-    ensures { of_date result ≡ run date s.now c.at }
+fn take_date(c: &mut Cursor) -> Result<ManufactureDate, Refusal>
+    ensures { Took date c.old result c.new }
 {
-    match c.two(s) {
-        TwoRead::Refused(f) => DateRead::Refused(f),
-        TwoRead::Got(week, year, next) => DateRead::Got(
-            ManufactureDate {
-                week,
-                year: year as u16 + 1990,
-            },
-            next,
-        ),
-    }
+    let (week, year) = c.two()?;
+    Ok(ManufactureDate {
+        week,
+        year: year as u16 + 1990,
+    })
 }
 
-fn take_product(c: Cursor, s: &[u8]) -> ProductRead
-    ensures { of_product result ≡ run product s.now c.at }
+fn take_product(c: &mut Cursor) -> Result<ProductInformation, Refusal>
+    ensures { Took product c.old result c.new }
 {
-    let mut c = c;
-    let maker = match take_maker(c, s) {
-        MakerRead::Refused(f) => return ProductRead::Refused(f),
-        MakerRead::Got(m, next) => {
-            c = next;
-            m
-        }
-    };
-    let code = match c.word(s) {
-        WordRead::Refused(f) => return ProductRead::Refused(f),
-        WordRead::Got(w, next) => {
-            c = next;
-            w
-        }
-    };
-    let serial = match c.long(s) {
-        LongRead::Refused(f) => return ProductRead::Refused(f),
-        LongRead::Got(l, next) => {
-            c = next;
-            l
-        }
-    };
-    match take_date(c, s) {
-        DateRead::Refused(f) => ProductRead::Refused(f),
-        DateRead::Got(date, next) => ProductRead::Got(
-            ProductInformation {
-                maker,
-                code,
-                serial,
-                date,
-            },
-            next,
-        ),
-    }
+    Ok(ProductInformation {
+        maker: take_maker(c)?,
+        code: c.word()?,
+        serial: c.long()?,
+        date: take_date(c)?,
+    })
 }
 
-fn take_version(c: Cursor, s: &[u8]) -> VersionRead
-    ensures { of_version result ≡ run version s.now c.at }
+fn take_version(c: &mut Cursor) -> Result<Version, Refusal>
+    ensures { Took version c.old result c.new }
 {
-    match c.two(s) {
-        TwoRead::Refused(f) => VersionRead::Refused(f),
-        TwoRead::Got(version, revision, next) => VersionRead::Got(
-            Version { version, revision },
-            next,
-        ),
-    }
+    let (version, revision) = c.two()?;
+    Ok(Version { version, revision })
 }
 
+#[tactic(auto, unfolding(crate::specs::Head::input_of))]
 fn input_of(val: u8) -> VideoInput
     ensures { result ≡ input_of val }
 {
@@ -220,37 +107,33 @@ fn input_of(val: u8) -> VideoInput
     }
 }
 
-fn take_input(c: Cursor, s: &[u8]) -> InputRead
-    ensures { of_input result ≡ run input s.now c.at }
+fn take_input(c: &mut Cursor) -> Result<VideoInput, Refusal>
+    ensures { Took input c.old result c.new }
 {
-    match c.byte(s) {
-        ByteRead::Refused(f) => InputRead::Refused(f),
-        ByteRead::Got(val, next) => InputRead::Got(input_of(val), next),
-    }
+    Ok(input_of(c.byte()?))
 }
 
-fn size_of(width: u8, height: u8) -> MaxSize
+#[tactic(auto, unfolding(crate::specs::Head::size_of))]
+fn size_of(width: u8, height: u8) -> Option<ImageSize>
     ensures { result ≡ size_of width height }
 {
-    if width == 0 {
-        return MaxSize::None;
+    if width == 0 || height == 0 {
+        return None;
     }
-    if height == 0 {
-        return MaxSize::None;
-    }
-    MaxSize::Some(ImageSize {
+    Some(ImageSize {
         width: crate_record::whole_of(width),
         height: crate_record::whole_of(height),
     })
 }
 
-fn gamma_from(val: u8) -> Gamma
+#[tactic(auto, unfolding(crate::specs::Head::gamma_from))]
+fn gamma_from(val: u8) -> Option<f32>
     ensures { result ≡ gamma_from val }
 {
     if val == 0xff {
-        Gamma::None
+        None
     } else {
-        Gamma::Some(crate_record::gamma_of(val))
+        Some(crate_record::gamma_of(val))
     }
 }
 
@@ -265,6 +148,7 @@ fn kind_of(code: u8) -> DisplayType
     }
 }
 
+#[tactic(auto, unfolding(crate::specs::Head::dpms_of))]
 fn dpms_of(val: u8) -> DPMSFeatures
     ensures { result ≡ dpms_of val }
 {
@@ -279,128 +163,59 @@ fn dpms_of(val: u8) -> DPMSFeatures
     }
 }
 
-fn take_dpms(c: Cursor, s: &[u8]) -> DpmsRead
-    ensures { of_dpms result ≡ run dpms s.now c.at }
+fn take_dpms(c: &mut Cursor) -> Result<DPMSFeatures, Refusal>
+    ensures { Took dpms c.old result c.new }
 {
-    match c.byte(s) {
-        ByteRead::Refused(f) => DpmsRead::Refused(f),
-        ByteRead::Got(val, next) => DpmsRead::Got(dpms_of(val), next),
-    }
+    Ok(dpms_of(c.byte()?))
 }
 
-fn take_display(c: Cursor, s: &[u8]) -> DisplayRead
-    ensures { of_display result ≡ run display s.now c.at }
+fn take_display(c: &mut Cursor) -> Result<DisplayParameters, Refusal>
+    ensures { Took display c.old result c.new }
 {
-    let mut c = c;
-    let input = match take_input(c, s) {
-        InputRead::Refused(f) => return DisplayRead::Refused(f),
-        InputRead::Got(i, next) => {
-            c = next;
-            i
-        }
-    };
-    let size = match c.two(s) {
-        TwoRead::Refused(f) => return DisplayRead::Refused(f),
-        TwoRead::Got(w, h, next) => {
-            c = next;
-            size_of(w, h)
-        }
-    };
-    let gamma = match c.byte(s) {
-        ByteRead::Refused(f) => return DisplayRead::Refused(f),
-        ByteRead::Got(g, next) => {
-            c = next;
-            gamma_from(g)
-        }
-    };
-    match take_dpms(c, s) {
-        DpmsRead::Refused(f) => DisplayRead::Refused(f),
-        DpmsRead::Got(dpms, next) => DisplayRead::Got(
-            DisplayParameters {
-                input,
-                size,
-                gamma,
-                dpms,
-            },
-            next,
-        ),
-    }
+    let input = take_input(c)?;
+    let (width, height) = c.two()?;
+    Ok(DisplayParameters {
+        input,
+        size: size_of(width, height),
+        gamma: gamma_from(c.byte()?),
+        dpms: take_dpms(c)?,
+    })
 }
 
-fn take_color(c: Cursor, s: &[u8]) -> ColorRead
-    ensures { of_color result ≡ run color s.now c.at }
+fn take_color(c: &mut Cursor) -> Result<Chromaticities, Refusal>
+    ensures { Took color c.old result c.new }
 {
-    match c.two(s) {
-        TwoRead::Refused(f) => ColorRead::Refused(f),
-        TwoRead::Got(rg, bw, c) => match c.four(s) {
-            FourRead::Refused(f) => ColorRead::Refused(f),
-            FourRead::Got(rx, ry, gx, gy, c) => match c.four(s) {
-                FourRead::Refused(f) => ColorRead::Refused(f),
-                FourRead::Got(bx, by, wx, wy, c) => ColorRead::Got(
-                    Chromaticities {
-                        red: Chromaticity {
-                            x: crate_record::coordinate_of(rx, rg, 6),
-                            y: crate_record::coordinate_of(ry, rg, 4),
-                        },
-                        green: Chromaticity {
-                            x: crate_record::coordinate_of(gx, rg, 2),
-                            y: crate_record::coordinate_of(gy, rg, 0),
-                        },
-                        blue: Chromaticity {
-                            x: crate_record::coordinate_of(bx, bw, 6),
-                            y: crate_record::coordinate_of(by, bw, 4),
-                        },
-                        white: Chromaticity {
-                            x: crate_record::coordinate_of(wx, bw, 2),
-                            y: crate_record::coordinate_of(wy, bw, 0),
-                        },
-                    },
-                    c,
-                ),
-            },
+    let (rg, bw) = c.two()?;
+    let (rx, ry, gx, gy) = c.four()?;
+    let (bx, by, wx, wy) = c.four()?;
+    Ok(Chromaticities {
+        red: Chromaticity {
+            x: crate_record::coordinate_of(rx, rg, 6),
+            y: crate_record::coordinate_of(ry, rg, 4),
         },
-    }
+        green: Chromaticity {
+            x: crate_record::coordinate_of(gx, rg, 2),
+            y: crate_record::coordinate_of(gy, rg, 0),
+        },
+        blue: Chromaticity {
+            x: crate_record::coordinate_of(bx, bw, 6),
+            y: crate_record::coordinate_of(by, bw, 4),
+        },
+        white: Chromaticity {
+            x: crate_record::coordinate_of(wx, bw, 2),
+            y: crate_record::coordinate_of(wy, bw, 0),
+        },
+    })
 }
 
-pub fn take_front(c: Cursor, s: &[u8]) -> FrontRead
-    ensures { of_front result ≡ run front s.now c.at }
+pub fn take_front(c: &mut Cursor) -> Result<Front, Refusal>
+    ensures { Took front c.old result c.new }
 {
-    let mut c = c;
-    match take_header(c, s) {
-        HeaderRead::Refused(f) => return FrontRead::Refused(f),
-        HeaderRead::Got(next) => c = next,
-    }
-    let product = match take_product(c, s) {
-        ProductRead::Refused(f) => return FrontRead::Refused(f),
-        ProductRead::Got(p, next) => {
-            c = next;
-            p
-        }
-    };
-    let version = match take_version(c, s) {
-        VersionRead::Refused(f) => return FrontRead::Refused(f),
-        VersionRead::Got(v, next) => {
-            c = next;
-            v
-        }
-    };
-    let display = match take_display(c, s) {
-        DisplayRead::Refused(f) => return FrontRead::Refused(f),
-        DisplayRead::Got(d, next) => {
-            c = next;
-            d
-        }
-    };
-    match take_color(c, s) {
-        ColorRead::Refused(f) => FrontRead::Refused(f),
-        ColorRead::Got(basic, next) => FrontRead::Got(
-            Front {
-                product,
-                version,
-                display,
-                basic,
-            },
-            next,
-        ),
-    }
+    take_header(c)?;
+    Ok(Front {
+        product: take_product(c)?,
+        version: take_version(c)?,
+        display: take_display(c)?,
+        basic: take_color(c)?,
+    })
 }

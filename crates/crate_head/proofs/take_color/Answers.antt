@@ -1,36 +1,30 @@
--- `crate_head::take_color` meets its contract: a chain of reads, each a `step`. Assumes nothing.
-use mathlib.Core.Path.{sym, ◌∙◌}
-use Rattle.steps.specs.Laws.{step_two, step_four}
-use Rattle.steps.specs.Steps.{got}
+-- `crate_head::take_color` meets its contract: one read after the other. Assumes nothing.
+use Rattle.std.proofs.Common.{rules}
+use Rattle.steps.specs.Took.{then_two, stop_two, then_four, stop_four, gives}
 use Rattle.crate_head.specs.Head.{color}
 use Rattle.crate_head.proofs.take_color.Goals as goal
 
-pub returns-in-Refused : goal.returns-in-Refused
+pub returns-in_err-rg : goal.returns-in_err-rg
 unfolding color
-returns-in-Refused c =
-    sym
-    (step_two _ _ _ c.two.ensures c.in-Refused.is)
+returns-in_err-rg c = stop_two _ c.two.ensures c.in_err-rg.was (search rules)
 
-pub returns-in-Refused-four : goal.returns-in-Refused-four
+pub returns-in_err-rx : goal.returns-in_err-rx
 unfolding color
-returns-in-Refused-four c =
-    sym
-    ((step_two _ _ _ c.two.ensures c.in-Got.is)
-    ∙ step_four _ _ _ c.four.ensures c.in-Refused-four.is)
+returns-in_err-rx c =
+    then_two _ c.two.ensures c.in_ok-rg.was
+    (stop_four _ c.four.ensures c.in_err-rx.was (search rules))
 
-pub returns-in-Refused-four-2 : goal.returns-in-Refused-four-2
+pub returns-in_err-bx : goal.returns-in_err-bx
 unfolding color
-returns-in-Refused-four-2 c =
-    sym
-    (((step_two _ _ _ c.two.ensures c.in-Got.is)
-    ∙ step_four _ _ _ c.four.ensures c.in-Got-four.is)
-    ∙ step_four _ _ _ c.four-in-Got-four.ensures c.in-Refused-four-2.is)
+returns-in_err-bx c =
+    then_two _ c.two.ensures c.in_ok-rg.was
+    (then_four _ c.four.ensures c.in_ok-rx.was
+    (stop_four _ c.four-2.ensures c.in_err-bx.was (search rules)))
 
-pub returns-in-Got-four-2 : goal.returns-in-Got-four-2
+pub returns : goal.returns
 unfolding color
-returns-in-Got-four-2 c =
-    (λ i. got (record { red = record { x = c.coordinate_of.ensures i; y = c.coordinate_of-in-Got-four-2.ensures i }; green = record { x = c.coordinate_of-in-Got-four-2-2.ensures i; y = c.coordinate_of-in-Got-four-2-3.ensures i }; blue = record { x = c.coordinate_of-in-Got-four-2-4.ensures i; y = c.coordinate_of-in-Got-four-2-5.ensures i }; white = record { x = c.coordinate_of-in-Got-four-2-6.ensures i; y = c.coordinate_of-in-Got-four-2-7.ensures i } }) c.in-Got-four-2.c.at)
-    ∙ sym
-    (((step_two _ _ _ c.two.ensures c.in-Got.is)
-    ∙ step_four _ _ _ c.four.ensures c.in-Got-four.is)
-    ∙ step_four _ _ _ c.four-in-Got-four.ensures c.in-Got-four-2.is)
+returns c =
+    then_two _ c.two.ensures c.in_ok-rg.was
+    (then_four _ c.four.ensures c.in_ok-rx.was
+    (then_four _ c.four-2.ensures c.in_ok-bx.was
+    (gives cc)))

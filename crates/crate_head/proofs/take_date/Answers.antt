@@ -1,17 +1,13 @@
--- `crate_head::take_date` meets its contract: a chain of reads, each a `step`. Assumes nothing.
-use mathlib.Core.Path.{sym}
-use Rattle.steps.specs.Laws.{step_two}
+-- `crate_head::take_date` meets its contract: one read after the other. Assumes nothing.
+use Rattle.std.proofs.Common.{rules, refl}
+use Rattle.steps.specs.Took.{then_two, stop_two, gives}
 use Rattle.crate_head.specs.Head.{date}
 use Rattle.crate_head.proofs.take_date.Goals as goal
 
-pub returns-in-Refused : goal.returns-in-Refused
+pub returns-in_err-week : goal.returns-in_err-week
 unfolding date
-returns-in-Refused c =
-    sym
-    (step_two _ _ _ c.two.ensures c.in-Refused.is)
+returns-in_err-week c = stop_two _ c.two.ensures c.in_err-week.was (search rules)
 
-pub returns-in-Got : goal.returns-in-Got
+pub returns : goal.returns
 unfolding date
-returns-in-Got c =
-    sym
-    (step_two _ _ _ c.two.ensures c.in-Got.is)
+returns c = then_two _ c.two.ensures c.in_ok-week.was (gives refl)

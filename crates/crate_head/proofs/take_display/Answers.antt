@@ -1,48 +1,39 @@
--- `crate_head::take_display` meets its contract: a chain of reads, each a `step`. Assumes nothing.
-use mathlib.Core.Path.{sym, ◌∙◌}
-use Rattle.steps.specs.Laws.{step, step_two}
-use Rattle.steps.specs.Leaves.{byte, of_byte}
-use Rattle.steps.specs.Steps.{got}
-use Rattle.crate_head.specs.Head.{input, dpms, display}
-use Rattle.crate_head.specs.Answers.{of_input, of_dpms}
+-- `crate_head::take_display` meets its contract: one read after the other. Assumes nothing.
+use Rattle.std.proofs.Common.{rules}
+use Rattle.steps.specs.Took.{then, stop, then_two, stop_two, gives}
+use Rattle.crate_head.specs.Head.{display}
 use Rattle.crate_head.proofs.take_display.Goals as goal
 
-pub returns-in-Refused : goal.returns-in-Refused
+pub returns-in_err-input : goal.returns-in_err-input
 unfolding display
-returns-in-Refused c =
-    sym
-    (step of_input input _ _ _ c.take_input.ensures c.in-Refused.is)
+returns-in_err-input c = stop _ c.take_input.ensures c.in_err-input.was (search rules)
 
-pub returns-in-Refused-two : goal.returns-in-Refused-two
+pub returns-in_err-width : goal.returns-in_err-width
 unfolding display
-returns-in-Refused-two c =
-    sym
-    ((step of_input input _ _ _ c.take_input.ensures c.in-Got.is)
-    ∙ step_two _ _ _ c.two.ensures c.in-Refused-two.is)
+returns-in_err-width c =
+    then _ c.take_input.ensures c.in_ok-input.was
+    (stop_two _ c.two.ensures c.in_err-width.was (search rules))
 
-pub returns-in-Refused-byte : goal.returns-in-Refused-byte
+pub returns-in_err-byte : goal.returns-in_err-byte
 unfolding display
-returns-in-Refused-byte c =
-    sym
-    (((step of_input input _ _ _ c.take_input.ensures c.in-Got.is)
-    ∙ step_two _ _ _ c.two.ensures c.in-Got-two.is)
-    ∙ step of_byte byte _ _ _ c.byte.ensures c.in-Refused-byte.is)
+returns-in_err-byte c =
+    then _ c.take_input.ensures c.in_ok-input.was
+    (then_two _ c.two.ensures c.in_ok-width.was
+    (stop _ c.byte.ensures c.in_err-byte.was (search rules)))
 
-pub returns-in-Refused-take_dpms : goal.returns-in-Refused-take_dpms
+pub returns-in_err-take_dpms : goal.returns-in_err-take_dpms
 unfolding display
-returns-in-Refused-take_dpms c =
-    sym
-    ((((step of_input input _ _ _ c.take_input.ensures c.in-Got.is)
-    ∙ step_two _ _ _ c.two.ensures c.in-Got-two.is)
-    ∙ step of_byte byte _ _ _ c.byte.ensures c.in-Got-byte.is)
-    ∙ step of_dpms dpms _ _ _ c.take_dpms.ensures c.in-Refused-take_dpms.is)
+returns-in_err-take_dpms c =
+    then _ c.take_input.ensures c.in_ok-input.was
+    (then_two _ c.two.ensures c.in_ok-width.was
+    (then _ c.byte.ensures c.in_ok-byte.was
+    (stop _ c.take_dpms.ensures c.in_err-take_dpms.was (search rules))))
 
-pub returns-in-Got-take_dpms : goal.returns-in-Got-take_dpms
+pub returns : goal.returns
 unfolding display
-returns-in-Got-take_dpms c =
-    (λ i. got (record { input = c.in-Got.i; size = c.size_of-size.ensures i; gamma = c.gamma_from-gamma.ensures i; dpms = c.in-Got-take_dpms.dpms }) c.in-Got-take_dpms.next.at)
-    ∙ sym
-    ((((step of_input input _ _ _ c.take_input.ensures c.in-Got.is)
-    ∙ step_two _ _ _ c.two.ensures c.in-Got-two.is)
-    ∙ step of_byte byte _ _ _ c.byte.ensures c.in-Got-byte.is)
-    ∙ step of_dpms dpms _ _ _ c.take_dpms.ensures c.in-Got-take_dpms.is)
+returns c =
+    then _ c.take_input.ensures c.in_ok-input.was
+    (then_two _ c.two.ensures c.in_ok-width.was
+    (then _ c.byte.ensures c.in_ok-byte.was
+    (then _ c.take_dpms.ensures c.in_ok-take_dpms.was
+    (gives cc))))

@@ -1,56 +1,49 @@
--- `crate_head::take_front` meets its contract: a chain of reads, each a `step`. Assumes nothing.
-use mathlib.Core.Path.{sym, ◌∙◌}
-use Rattle.steps.specs.Laws.{step}
-use Rattle.crate_head.specs.Head.{header, product, version, display, color, front}
-use Rattle.crate_head.specs.Answers.{of_header, of_product, of_version, of_display, of_color}
+-- `crate_head::take_front` meets its contract: one read after the other. Assumes nothing.
+use Rattle.std.proofs.Common.{rules, refl}
+use Rattle.steps.specs.Took.{then, stop, gives}
+use Rattle.crate_head.specs.Head.{front}
 use Rattle.crate_head.proofs.take_front.Goals as goal
 
-pub returns-in-Refused : goal.returns-in-Refused
+pub returns-in_err-take_header : goal.returns-in_err-take_header
 unfolding front
-returns-in-Refused c =
-    sym
-    (step of_header header _ _ _ c.take_header.ensures c.in-Refused.is)
+returns-in_err-take_header c = stop _ c.take_header.ensures c.in_err-take_header.was (search rules)
 
-pub returns-in-Refused-take_product : goal.returns-in-Refused-take_product
+pub returns-in_err-take_product : goal.returns-in_err-take_product
 unfolding front
-returns-in-Refused-take_product c =
-    sym
-    ((step of_header header _ _ _ c.take_header.ensures c.in-Got.is)
-    ∙ step of_product product _ _ _ c.take_product.ensures c.in-Refused-take_product.is)
+returns-in_err-take_product c =
+    then _ c.take_header.ensures c.in_ok-take_header.was
+    (stop _ c.take_product.ensures c.in_err-take_product.was (search rules))
 
-pub returns-in-Refused-take_version : goal.returns-in-Refused-take_version
+pub returns-in_err-take_version : goal.returns-in_err-take_version
 unfolding front
-returns-in-Refused-take_version c =
-    sym
-    (((step of_header header _ _ _ c.take_header.ensures c.in-Got.is)
-    ∙ step of_product product _ _ _ c.take_product.ensures c.in-Got-take_product.is)
-    ∙ step of_version version _ _ _ c.take_version.ensures c.in-Refused-take_version.is)
+returns-in_err-take_version c =
+    then _ c.take_header.ensures c.in_ok-take_header.was
+    (then _ c.take_product.ensures c.in_ok-take_product.was
+    (stop _ c.take_version.ensures c.in_err-take_version.was (search rules)))
 
-pub returns-in-Refused-take_display : goal.returns-in-Refused-take_display
+pub returns-in_err-take_display : goal.returns-in_err-take_display
 unfolding front
-returns-in-Refused-take_display c =
-    sym
-    ((((step of_header header _ _ _ c.take_header.ensures c.in-Got.is)
-    ∙ step of_product product _ _ _ c.take_product.ensures c.in-Got-take_product.is)
-    ∙ step of_version version _ _ _ c.take_version.ensures c.in-Got-take_version.is)
-    ∙ step of_display display _ _ _ c.take_display.ensures c.in-Refused-take_display.is)
+returns-in_err-take_display c =
+    then _ c.take_header.ensures c.in_ok-take_header.was
+    (then _ c.take_product.ensures c.in_ok-take_product.was
+    (then _ c.take_version.ensures c.in_ok-take_version.was
+    (stop _ c.take_display.ensures c.in_err-take_display.was (search rules))))
 
-pub returns-in-Refused-take_color : goal.returns-in-Refused-take_color
+pub returns-in_err-take_color : goal.returns-in_err-take_color
 unfolding front
-returns-in-Refused-take_color c =
-    sym
-    (((((step of_header header _ _ _ c.take_header.ensures c.in-Got.is)
-    ∙ step of_product product _ _ _ c.take_product.ensures c.in-Got-take_product.is)
-    ∙ step of_version version _ _ _ c.take_version.ensures c.in-Got-take_version.is)
-    ∙ step of_display display _ _ _ c.take_display.ensures c.in-Got-take_display.is)
-    ∙ step of_color color _ _ _ c.take_color.ensures c.in-Refused-take_color.is)
+returns-in_err-take_color c =
+    then _ c.take_header.ensures c.in_ok-take_header.was
+    (then _ c.take_product.ensures c.in_ok-take_product.was
+    (then _ c.take_version.ensures c.in_ok-take_version.was
+    (then _ c.take_display.ensures c.in_ok-take_display.was
+    (stop _ c.take_color.ensures c.in_err-take_color.was (search rules)))))
 
-pub returns-in-Got-take_color : goal.returns-in-Got-take_color
+pub returns : goal.returns
 unfolding front
-returns-in-Got-take_color c =
-    sym
-    (((((step of_header header _ _ _ c.take_header.ensures c.in-Got.is)
-    ∙ step of_product product _ _ _ c.take_product.ensures c.in-Got-take_product.is)
-    ∙ step of_version version _ _ _ c.take_version.ensures c.in-Got-take_version.is)
-    ∙ step of_display display _ _ _ c.take_display.ensures c.in-Got-take_display.is)
-    ∙ step of_color color _ _ _ c.take_color.ensures c.in-Got-take_color.is)
+returns c =
+    then _ c.take_header.ensures c.in_ok-take_header.was
+    (then _ c.take_product.ensures c.in_ok-take_product.was
+    (then _ c.take_version.ensures c.in_ok-take_version.was
+    (then _ c.take_display.ensures c.in_ok-take_display.was
+    (then _ c.take_color.ensures c.in_ok-take_color.was
+    (gives refl)))))

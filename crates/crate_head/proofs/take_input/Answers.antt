@@ -1,20 +1,13 @@
--- `crate_head::take_input` meets its contract: a chain of reads, each a `step`. Assumes nothing.
-use mathlib.Core.Path.{sym, ap, ◌∙◌}
-use Rattle.steps.specs.Laws.{step}
-use Rattle.steps.specs.Leaves.{byte, of_byte}
-use Rattle.steps.specs.Steps.{got}
+-- `crate_head::take_input` meets its contract: one read after the other. Assumes nothing.
+use Rattle.std.proofs.Common.{rules, ap, Ok}
+use Rattle.steps.specs.Took.{then, stop, gives}
 use Rattle.crate_head.specs.Head.{input}
 use Rattle.crate_head.proofs.take_input.Goals as goal
 
-pub returns-in-Refused : goal.returns-in-Refused
+pub returns-in_err-byte : goal.returns-in_err-byte
 unfolding input
-returns-in-Refused c =
-    sym
-    (step of_byte byte _ _ _ c.byte.ensures c.in-Refused.is)
+returns-in_err-byte c = stop _ c.byte.ensures c.in_err-byte.was (search rules)
 
-pub returns-in-Got : goal.returns-in-Got
+pub returns : goal.returns
 unfolding input
-returns-in-Got c =
-    ap (λ v. got v c.in-Got.next.at) c.input_of.ensures
-    ∙ sym
-    (step of_byte byte _ _ _ c.byte.ensures c.in-Got.is)
+returns c = then _ c.byte.ensures c.in_ok-byte.was (gives (ap Ok c.input_of.ensures))

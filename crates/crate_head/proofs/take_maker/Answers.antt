@@ -1,20 +1,13 @@
--- `crate_head::take_maker` meets its contract: a chain of reads, each a `step`. Assumes nothing.
-use mathlib.Core.Path.{sym, ap, ◌∙◌}
-use Rattle.steps.specs.Laws.{step}
-use Rattle.steps.specs.Leaves.{word, of_word}
-use Rattle.steps.specs.Steps.{got}
+-- `crate_head::take_maker` meets its contract: one read after the other. Assumes nothing.
+use Rattle.std.proofs.Common.{rules, ap, Ok}
+use Rattle.steps.specs.Took.{then, stop, gives}
 use Rattle.crate_head.specs.Head.{maker}
 use Rattle.crate_head.proofs.take_maker.Goals as goal
 
-pub returns-in-Refused : goal.returns-in-Refused
+pub returns-in_err-k : goal.returns-in_err-k
 unfolding maker
-returns-in-Refused c =
-    sym
-    (step of_word word _ _ _ c.word.ensures c.in-Refused.is)
+returns-in_err-k c = stop _ c.word.ensures c.in_err-k.was (search rules)
 
-pub returns-in-Got : goal.returns-in-Got
+pub returns : goal.returns
 unfolding maker
-returns-in-Got c =
-    ap (λ v. got v c.in-Got.next.at) c.maker_of.ensures
-    ∙ sym
-    (step of_word word _ _ _ c.word.ensures c.in-Got.is)
+returns c = then _ c.word.ensures c.in_ok-k.was (gives (ap Ok c.maker_of.ensures))

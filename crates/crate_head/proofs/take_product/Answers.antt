@@ -1,46 +1,39 @@
--- `crate_head::take_product` meets its contract: a chain of reads, each a `step`. Assumes nothing.
-use mathlib.Core.Path.{sym, ◌∙◌}
-use Rattle.steps.specs.Laws.{step}
-use Rattle.steps.specs.Leaves.{word, long, of_word, of_long}
-use Rattle.crate_head.specs.Head.{maker, date, product}
-use Rattle.crate_head.specs.Answers.{of_maker, of_date}
+-- `crate_head::take_product` meets its contract: one read after the other. Assumes nothing.
+use Rattle.std.proofs.Common.{rules, refl}
+use Rattle.steps.specs.Took.{then, stop, gives}
+use Rattle.crate_head.specs.Head.{product}
 use Rattle.crate_head.proofs.take_product.Goals as goal
 
-pub returns-in-Refused : goal.returns-in-Refused
+pub returns-in_err-take_maker : goal.returns-in_err-take_maker
 unfolding product
-returns-in-Refused c =
-    sym
-    (step of_maker maker _ _ _ c.take_maker.ensures c.in-Refused.is)
+returns-in_err-take_maker c = stop _ c.take_maker.ensures c.in_err-take_maker.was (search rules)
 
-pub returns-in-Refused-word : goal.returns-in-Refused-word
+pub returns-in_err-word : goal.returns-in_err-word
 unfolding product
-returns-in-Refused-word c =
-    sym
-    ((step of_maker maker _ _ _ c.take_maker.ensures c.in-Got.is)
-    ∙ step of_word word _ _ _ c.word.ensures c.in-Refused-word.is)
+returns-in_err-word c =
+    then _ c.take_maker.ensures c.in_ok-take_maker.was
+    (stop _ c.word.ensures c.in_err-word.was (search rules))
 
-pub returns-in-Refused-long : goal.returns-in-Refused-long
+pub returns-in_err-long : goal.returns-in_err-long
 unfolding product
-returns-in-Refused-long c =
-    sym
-    (((step of_maker maker _ _ _ c.take_maker.ensures c.in-Got.is)
-    ∙ step of_word word _ _ _ c.word.ensures c.in-Got-word.is)
-    ∙ step of_long long _ _ _ c.long.ensures c.in-Refused-long.is)
+returns-in_err-long c =
+    then _ c.take_maker.ensures c.in_ok-take_maker.was
+    (then _ c.word.ensures c.in_ok-word.was
+    (stop _ c.long.ensures c.in_err-long.was (search rules)))
 
-pub returns-in-Refused-take_date : goal.returns-in-Refused-take_date
+pub returns-in_err-take_date : goal.returns-in_err-take_date
 unfolding product
-returns-in-Refused-take_date c =
-    sym
-    ((((step of_maker maker _ _ _ c.take_maker.ensures c.in-Got.is)
-    ∙ step of_word word _ _ _ c.word.ensures c.in-Got-word.is)
-    ∙ step of_long long _ _ _ c.long.ensures c.in-Got-long.is)
-    ∙ step of_date date _ _ _ c.take_date.ensures c.in-Refused-take_date.is)
+returns-in_err-take_date c =
+    then _ c.take_maker.ensures c.in_ok-take_maker.was
+    (then _ c.word.ensures c.in_ok-word.was
+    (then _ c.long.ensures c.in_ok-long.was
+    (stop _ c.take_date.ensures c.in_err-take_date.was (search rules))))
 
-pub returns-in-Got-take_date : goal.returns-in-Got-take_date
+pub returns : goal.returns
 unfolding product
-returns-in-Got-take_date c =
-    sym
-    ((((step of_maker maker _ _ _ c.take_maker.ensures c.in-Got.is)
-    ∙ step of_word word _ _ _ c.word.ensures c.in-Got-word.is)
-    ∙ step of_long long _ _ _ c.long.ensures c.in-Got-long.is)
-    ∙ step of_date date _ _ _ c.take_date.ensures c.in-Got-take_date.is)
+returns c =
+    then _ c.take_maker.ensures c.in_ok-take_maker.was
+    (then _ c.word.ensures c.in_ok-word.was
+    (then _ c.long.ensures c.in_ok-long.was
+    (then _ c.take_date.ensures c.in_ok-take_date.was
+    (gives refl))))

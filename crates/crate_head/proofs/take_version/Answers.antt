@@ -1,17 +1,13 @@
--- `crate_head::take_version` meets its contract: a chain of reads, each a `step`. Assumes nothing.
-use mathlib.Core.Path.{sym}
-use Rattle.steps.specs.Laws.{step_two}
+-- `crate_head::take_version` meets its contract: one read after the other. Assumes nothing.
+use Rattle.std.proofs.Common.{rules, refl}
+use Rattle.steps.specs.Took.{then_two, stop_two, gives}
 use Rattle.crate_head.specs.Head.{version}
 use Rattle.crate_head.proofs.take_version.Goals as goal
 
-pub returns-in-Refused : goal.returns-in-Refused
+pub returns-in_err-version : goal.returns-in_err-version
 unfolding version
-returns-in-Refused c =
-    sym
-    (step_two _ _ _ c.two.ensures c.in-Refused.is)
+returns-in_err-version c = stop_two _ c.two.ensures c.in_err-version.was (search rules)
 
-pub returns-in-Got : goal.returns-in-Got
+pub returns : goal.returns
 unfolding version
-returns-in-Got c =
-    sym
-    (step_two _ _ _ c.two.ensures c.in-Got.is)
+returns c = then_two _ c.two.ensures c.in_ok-version.was (gives refl)
