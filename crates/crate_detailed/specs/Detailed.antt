@@ -1,14 +1,12 @@
 -- A detailed timing, as the source reads it. Bytes have the source's names, cut short: hb is hb_low, hh is h_high, ho is hso_low.
-use Rattle.std.specs.Prelude.{ℕ, Bool, true, false, ◌||◌, cond, eqb, ltb}
+use Rattle.std.specs.Prelude.{ℕ, Bool, true, false, ◌||◌, cond, eqb, ltb, Option, None, Some}
 use Rattle.bits.specs.Fields.{digits, bit}
 use Rattle.steps.specs.Steps.{Steps, done, refuse, ◌>>=◌}
 use Rattle.steps.specs.Leaves.{byte, word}
 use Rattle.timing.specs.Axis.{across_of, down_of}
 use Rattle.timing.specs.Rest.{clock_of, size_of, border_of, polarity_of, stereo_of}
-use Rattle.timing.specs.declared.AcrossRead.{AcrossRead}
-use Rattle.timing.specs.declared.AcrossRead.TheVariants as Across
-use Rattle.timing.specs.declared.DownRead.{DownRead}
-use Rattle.timing.specs.declared.DownRead.TheVariants as Down
+use Rattle.timing.specs.declared.Across.{Across}
+use Rattle.timing.specs.declared.Down.{Down}
 use Rattle.timing.specs.declared.Size.{Size}
 use Rattle.crate_record.specs.Single.{tenths_of}
 use Rattle.crate_record.specs.declared.ImageSize.{ImageSize}
@@ -18,8 +16,6 @@ use Rattle.crate_record.specs.declared.SyncType.{SyncType}
 use Rattle.crate_record.specs.declared.SyncType.TheVariants.{Composite, Separate}
 use Rattle.crate_record.specs.declared.DetailedTiming.{DetailedTiming}
 use Rattle.crate_detailed.specs.declared.Axes.{Axes}
-use Rattle.crate_detailed.specs.declared.MaybeTiming.{MaybeTiming}
-use Rattle.crate_detailed.specs.declared.MaybeTiming.TheVariants.{None, Some}
 
 abbrev pub line_of : Bool → SyncLine
 line_of true = RGB
@@ -39,10 +35,10 @@ abbrev pub in_tenths : Size → ImageSize
 in_tenths mm = record { width = tenths_of mm.width; height = tenths_of mm.height }
 
 -- a back porch below zero, on either axis, is refused
-unfoldable pub fitted : AcrossRead → DownRead → Steps Axes
-fitted Across.Over v = refuse 6
-fitted (Across.Fits h) Down.Over = refuse 6
-fitted (Across.Fits h) (Down.Fits v) = done (record { across = h; down = v })
+unfoldable pub fitted : Option Across → Option Down → Steps Axes
+fitted None v = refuse 6
+fitted (Some h) None = refuse 6
+fitted (Some h) (Some v) = done (record { across = h; down = v })
 
 unfoldable pub axes : ℕ → Steps Axes
 axes ha = do
@@ -71,7 +67,7 @@ timing_of clock a hs vs sh hb vb val =
     }
 
 -- the fifteen bytes after the clock and the active low byte ha
-unfoldable pub timed : ℕ → ℕ → Steps MaybeTiming
+unfoldable pub timed : ℕ → ℕ → Steps (Option DetailedTiming)
 timed clock ha = do
   a ← axes ha
   hs ← byte
@@ -82,7 +78,7 @@ timed clock ha = do
   val ← byte
   done (Some (timing_of clock a hs vs sh hb vb val))
 
-unfoldable pub detailed : Steps MaybeTiming
+unfoldable pub detailed : Steps (Option DetailedTiming)
 detailed = do
   clock ← word
   ha ← byte

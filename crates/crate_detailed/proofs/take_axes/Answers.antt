@@ -1,38 +1,49 @@
--- `crate_detailed::take_axes` meets its contract: a chain of reads, each a `step`. Assumes nothing.
-use mathlib.Core.Path.{sym, ap₂, ◌∙◌}
-use Rattle.steps.specs.Laws.{step, step_four}
-use Rattle.steps.specs.Leaves.{byte, of_byte}
-use Rattle.steps.specs.Steps.{run}
-use Rattle.crate_detailed.specs.Detailed.{fitted, axes}
+-- `crate_detailed::take_axes` meets its contract: one read after the other. Assumes nothing.
+use Rattle.std.proofs.Common.{rules}
+use Rattle.steps.specs.Took.{then, stop, then_four, stop_four}
+use Rattle.crate_detailed.proofs.Room.{no_across, no_down, both}
+use Rattle.crate_detailed.specs.Detailed.{axes}
 use Rattle.crate_detailed.proofs.take_axes.Goals as goal
 
-pub returns-in-Refused : goal.returns-in-Refused
+pub returns-in_err-hb : goal.returns-in_err-hb
 unfolding axes
-returns-in-Refused c =
-    sym
-    (step_four _ _ _ c.four.ensures c.in-Refused.is)
+returns-in_err-hb c = stop_four _ c.four.ensures c.in_err-hb.was (search rules)
 
-pub returns-in-Refused-four : goal.returns-in-Refused-four
+pub returns-in_err-vh : goal.returns-in_err-vh
 unfolding axes
-returns-in-Refused-four c =
-    sym
-    ((step_four _ _ _ c.four.ensures c.in-Got.is)
-    ∙ step_four _ _ _ c.four-in-Got.ensures c.in-Refused-four.is)
+returns-in_err-vh c =
+    then_four _ c.four.ensures c.in_ok-hb.was
+    (stop_four _ c.four-2.ensures c.in_err-vh.was (search rules))
 
-pub returns-in-Refused-byte : goal.returns-in-Refused-byte
+pub returns-in_err-hv : goal.returns-in_err-hv
 unfolding axes
-returns-in-Refused-byte c =
-    sym
-    (((step_four _ _ _ c.four.ensures c.in-Got.is)
-    ∙ step_four _ _ _ c.four-in-Got.ensures c.in-Got-four.is)
-    ∙ step of_byte byte _ _ _ c.byte.ensures c.in-Refused-byte.is)
+returns-in_err-hv c =
+    then_four _ c.four.ensures c.in_ok-hb.was
+    (then_four _ c.four-2.ensures c.in_ok-vh.was
+    (stop _ c.byte.ensures c.in_err-hv.was (search rules)))
 
-pub returns-in-Got-byte : goal.returns-in-Got-byte
+pub returns-in_err-ok_or : goal.returns-in_err-ok_or
 unfolding axes
-returns-in-Got-byte c =
-    c.axes_by.ensures c.args.s.now
-    ∙ ap₂ (λ h v. run (fitted h v) c.args.s.now c.in-Got-byte.c.at) c.across_of-across.ensures c.down_of-down.ensures
-    ∙ sym
-    (((step_four _ _ _ c.four.ensures c.in-Got.is)
-    ∙ step_four _ _ _ c.four-in-Got.ensures c.in-Got-four.is)
-    ∙ step of_byte byte _ _ _ c.byte.ensures c.in-Got-byte.is)
+returns-in_err-ok_or c =
+    then_four _ c.four.ensures c.in_ok-hb.was
+    (then_four _ c.four-2.ensures c.in_ok-vh.was
+    (then _ c.byte.ensures c.in_ok-hv.was
+    (no_across _ c.across_of.ensures c.ok_or.ensures.value c.in_err-ok_or.was (search rules))))
+
+pub returns-in_err-ok_or-2 : goal.returns-in_err-ok_or-2
+unfolding axes
+returns-in_err-ok_or-2 c =
+    then_four _ c.four.ensures c.in_ok-hb.was
+    (then_four _ c.four-2.ensures c.in_ok-vh.was
+    (then _ c.byte.ensures c.in_ok-hv.was
+    (no_down c.across_of.ensures c.ok_or.ensures.value c.in_ok-ok_or.was
+    c.down_of.ensures c.ok_or-2.ensures.value c.in_err-ok_or-2.was (search rules))))
+
+pub returns : goal.returns
+unfolding axes
+returns c =
+    then_four _ c.four.ensures c.in_ok-hb.was
+    (then_four _ c.four-2.ensures c.in_ok-vh.was
+    (then _ c.byte.ensures c.in_ok-hv.was
+    (both c.across_of.ensures c.ok_or.ensures.value c.in_ok-ok_or.was
+    c.down_of.ensures c.ok_or-2.ensures.value c.in_ok-ok_or-2.was)))

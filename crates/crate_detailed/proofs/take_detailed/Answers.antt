@@ -1,45 +1,33 @@
--- `crate_detailed::take_detailed` meets its contract: a chain of reads, each a `step`. Assumes nothing.
-use mathlib.Core.Path.{sym, ◌∙◌}
-use Rattle.steps.specs.Laws.{step, same_run, picked, picked_not, either_first, either_second, neither}
-use Rattle.steps.specs.Leaves.{byte, word, of_byte, of_word}
-use borrow.Author.Tests.{eq-eqb, ne_eqb}
+-- `crate_detailed::take_detailed` meets its contract: one read after the other. Assumes nothing.
+use Rattle.std.proofs.Common.{rules, ◌≡◌, true, false, refl}
+use Rattle.steps.specs.Took.{then, stop, gives, as_of}
+use Rattle.std.specs.Prelude.{◌||◌, eqb}
+use Rattle.steps.specs.Laws.{picked, picked_not}
 use Rattle.crate_detailed.specs.Detailed.{detailed}
 use Rattle.crate_detailed.proofs.take_detailed.Goals as goal
 
-pub returns-in-Refused : goal.returns-in-Refused
+pub returns-in_err-clock : goal.returns-in_err-clock
 unfolding detailed
-returns-in-Refused c =
-    sym
-    (step of_word word _ _ _ c.word.ensures c.in-Refused.is)
+returns-in_err-clock c = stop _ c.word.ensures c.in_err-clock.was (search rules)
 
-pub returns-in-Refused-byte : goal.returns-in-Refused-byte
+pub returns-in_err-ha : goal.returns-in_err-ha
 unfolding detailed
-returns-in-Refused-byte c =
-    sym
-    ((step of_word word _ _ _ c.word.ensures c.in-Got.is)
-    ∙ step of_byte byte _ _ _ c.byte.ensures c.in-Refused-byte.is)
+returns-in_err-ha c =
+    then _ c.word.ensures c.in_ok-clock.was
+    (stop _ c.byte.ensures c.in_err-ha.was (search rules))
 
 pub returns-then-clock-eq0 : goal.returns-then-clock-eq0
 unfolding detailed
 returns-then-clock-eq0 c =
-    sym
-    (((step of_word word _ _ _ c.word.ensures c.in-Got.is)
-    ∙ step of_byte byte _ _ _ c.byte.ensures c.in-Got-byte.is)
-    ∙ same_run _ _ (picked _ _ _ (either_first _ _ (eq-eqb _ _ c.if-clock-eq0.true))))
-
-pub returns-then-ha-eq0 : goal.returns-then-ha-eq0
-unfolding detailed
-returns-then-ha-eq0 c =
-    sym
-    (((step of_word word _ _ _ c.word.ensures c.in-Got.is)
-    ∙ step of_byte byte _ _ _ c.byte.ensures c.in-Got-byte.is)
-    ∙ same_run _ _ (picked _ _ _ (either_second _ _ (ne_eqb _ _ c.if-clock-eq0.false) (eq-eqb _ _ c.if-ha-eq0.true))))
+    let none : (eqb c.in_ok-clock.clock 0 || eqb c.in_ok-ha.ha 0) ≡ true = search rules in
+    then _ c.word.ensures c.in_ok-clock.was
+    (then _ c.byte.ensures c.in_ok-ha.was
+    (as_of (picked _ _ _ none) (gives refl)))
 
 pub returns : goal.returns
 unfolding detailed
 returns c =
-    c.take_timing.ensures
-    ∙ sym
-    (((step of_word word _ _ _ c.word.ensures c.in-Got.is)
-    ∙ step of_byte byte _ _ _ c.byte.ensures c.in-Got-byte.is)
-    ∙ same_run _ _ (picked_not _ _ _ (neither _ _ (ne_eqb _ _ c.if-clock-eq0.false) (ne_eqb _ _ c.if-ha-eq0.false))))
+    let none : (eqb c.in_ok-clock.clock 0 || eqb c.in_ok-ha.ha 0) ≡ false = search rules in
+    then _ c.word.ensures c.in_ok-clock.was
+    (then _ c.byte.ensures c.in_ok-ha.was
+    (as_of (picked_not _ _ _ none) c.take_timing.ensures))

@@ -1,38 +1,30 @@
--- `crate_detailed::take_timing` meets its contract: a chain of reads, each a `step`. Assumes nothing.
-use mathlib.Core.Path.{sym, ap, ◌∙◌}
-use Rattle.steps.specs.Laws.{step, step_two, step_four}
-use Rattle.steps.specs.Steps.{got}
-use Rattle.crate_detailed.specs.Detailed.{axes, timed}
-use Rattle.crate_detailed.specs.Answers.{of_axes}
-use Rattle.crate_detailed.specs.declared.MaybeTiming.TheVariants.{Some}
+-- `crate_detailed::take_timing` meets its contract: one read after the other. Assumes nothing.
+use Rattle.std.proofs.Common.{rules, ap, Ok, Some}
+use Rattle.steps.specs.Took.{then, stop, then_two, stop_two, then_four, stop_four, gives}
+use Rattle.crate_detailed.specs.Detailed.{timed}
 use Rattle.crate_detailed.proofs.take_timing.Goals as goal
 
-pub returns-in-Refused : goal.returns-in-Refused
+pub returns-in_err-axes : goal.returns-in_err-axes
 unfolding timed
-returns-in-Refused c =
-    sym
-    (step of_axes (axes _) _ _ _ c.take_axes.ensures c.in-Refused.is)
+returns-in_err-axes c = stop _ c.take_axes.ensures c.in_err-axes.was (search rules)
 
-pub returns-in-Refused-four : goal.returns-in-Refused-four
+pub returns-in_err-hs : goal.returns-in_err-hs
 unfolding timed
-returns-in-Refused-four c =
-    sym
-    ((step of_axes (axes _) _ _ _ c.take_axes.ensures c.in-Got.is)
-    ∙ step_four _ _ _ c.four.ensures c.in-Refused-four.is)
+returns-in_err-hs c =
+    then _ c.take_axes.ensures c.in_ok-axes.was
+    (stop_four _ c.four.ensures c.in_err-hs.was (search rules))
 
-pub returns-in-Refused-two : goal.returns-in-Refused-two
+pub returns-in_err-vb : goal.returns-in_err-vb
 unfolding timed
-returns-in-Refused-two c =
-    sym
-    (((step of_axes (axes _) _ _ _ c.take_axes.ensures c.in-Got.is)
-    ∙ step_four _ _ _ c.four.ensures c.in-Got-four.is)
-    ∙ step_two _ _ _ c.two.ensures c.in-Refused-two.is)
+returns-in_err-vb c =
+    then _ c.take_axes.ensures c.in_ok-axes.was
+    (then_four _ c.four.ensures c.in_ok-hs.was
+    (stop_two _ c.two.ensures c.in_err-vb.was (search rules)))
 
-pub returns-in-Got-two : goal.returns-in-Got-two
+pub returns : goal.returns
 unfolding timed
-returns-in-Got-two c =
-    ap (λ t. got (Some t) c.in-Got-two.c.at) c.timing_of-t.ensures
-    ∙ sym
-    (((step of_axes (axes _) _ _ _ c.take_axes.ensures c.in-Got.is)
-    ∙ step_four _ _ _ c.four.ensures c.in-Got-four.is)
-    ∙ step_two _ _ _ c.two.ensures c.in-Got-two.is)
+returns c =
+    then _ c.take_axes.ensures c.in_ok-axes.was
+    (then_four _ c.four.ensures c.in_ok-hs.was
+    (then_two _ c.two.ensures c.in_ok-vb.was
+    (gives (ap (λ t. Ok (Some t)) c.timing_of-t.ensures))))

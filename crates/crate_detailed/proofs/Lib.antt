@@ -1,0 +1,2 @@
+-- What the proofs of `crate_detailed` share.
+mod Room
