@@ -112,8 +112,7 @@ fn take_timing(c: &mut Cursor, clock: u16, ha: u8) -> Result<Option<DetailedTimi
     let axes = take_axes(c, ha)?;
     let (hs, vs, sh, hb) = c.four()?;
     let (vb, val) = c.two()?;
-    let t = timing_of(clock, axes, hs, vs, sh, hb, vb, val);
-    Ok(Some(t))
+    Ok(Some(timing_of(clock, axes, hs, vs, sh, hb, vb, val)))
 }
 
 // None where the clock or the active low byte is zero.

@@ -27,4 +27,4 @@ returns c =
     then _ c.take_axes.ensures c.in_ok-axes.was
     (then_four _ c.four.ensures c.in_ok-hs.was
     (then_two _ c.two.ensures c.in_ok-vb.was
-    (gives (ap (λ t. Ok (Some t)) c.timing_of-t.ensures))))
+    (gives (ap (λ t. Ok (Some t)) c.timing_of.ensures))))
