@@ -7,43 +7,43 @@ use Rattle.crate_detailed.proofs.take_axes.Goals as goal
 
 pub returns-in_err-hb : goal.returns-in_err-hb
 unfolding axes
-returns-in_err-hb c = stop_four _ c.four.ensures c.in_err-hb.was (search rules)
+returns-in_err-hb c = stop_four _ c.in_err-hb.ensures (search rules)
 
 pub returns-in_err-vh : goal.returns-in_err-vh
 unfolding axes
 returns-in_err-vh c =
-    then_four _ c.four.ensures c.in_ok-hb.was
-    (stop_four _ c.four-2.ensures c.in_err-vh.was (search rules))
+    then_four _ c.in_ok-hb.ensures
+    (stop_four _ c.in_err-vh.ensures (search rules))
 
 pub returns-in_err-hv : goal.returns-in_err-hv
 unfolding axes
 returns-in_err-hv c =
-    then_four _ c.four.ensures c.in_ok-hb.was
-    (then_four _ c.four-2.ensures c.in_ok-vh.was
-    (stop _ c.byte.ensures c.in_err-hv.was (search rules)))
+    then_four _ c.in_ok-hb.ensures
+    (then_four _ c.in_ok-vh.ensures
+    (stop _ c.in_err-hv.ensures (search rules)))
 
 pub returns-in_err-ok_or : goal.returns-in_err-ok_or
 unfolding axes
 returns-in_err-ok_or c =
-    then_four _ c.four.ensures c.in_ok-hb.was
-    (then_four _ c.four-2.ensures c.in_ok-vh.was
-    (then _ c.byte.ensures c.in_ok-hv.was
+    then_four _ c.in_ok-hb.ensures
+    (then_four _ c.in_ok-vh.ensures
+    (then _ c.in_ok-hv.ensures
     (no_across _ c.across_of.ensures c.ok_or.ensures.value c.in_err-ok_or.was (search rules))))
 
 pub returns-in_err-ok_or-2 : goal.returns-in_err-ok_or-2
 unfolding axes
 returns-in_err-ok_or-2 c =
-    then_four _ c.four.ensures c.in_ok-hb.was
-    (then_four _ c.four-2.ensures c.in_ok-vh.was
-    (then _ c.byte.ensures c.in_ok-hv.was
+    then_four _ c.in_ok-hb.ensures
+    (then_four _ c.in_ok-vh.ensures
+    (then _ c.in_ok-hv.ensures
     (no_down c.across_of.ensures c.ok_or.ensures.value c.in_ok-ok_or.was
     c.down_of.ensures c.ok_or-2.ensures.value c.in_err-ok_or-2.was (search rules))))
 
 pub returns : goal.returns
 unfolding axes
 returns c =
-    then_four _ c.four.ensures c.in_ok-hb.was
-    (then_four _ c.four-2.ensures c.in_ok-vh.was
-    (then _ c.byte.ensures c.in_ok-hv.was
+    then_four _ c.in_ok-hb.ensures
+    (then_four _ c.in_ok-vh.ensures
+    (then _ c.in_ok-hv.ensures
     (both c.across_of.ensures c.ok_or.ensures.value c.in_ok-ok_or.was
     c.down_of.ensures c.ok_or-2.ensures.value c.in_ok-ok_or-2.was)))

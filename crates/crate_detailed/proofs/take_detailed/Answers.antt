@@ -8,26 +8,26 @@ use Rattle.crate_detailed.proofs.take_detailed.Goals as goal
 
 pub returns-in_err-clock : goal.returns-in_err-clock
 unfolding detailed
-returns-in_err-clock c = stop _ c.word.ensures c.in_err-clock.was (search rules)
+returns-in_err-clock c = stop _ c.in_err-clock.ensures (search rules)
 
 pub returns-in_err-ha : goal.returns-in_err-ha
 unfolding detailed
 returns-in_err-ha c =
-    then _ c.word.ensures c.in_ok-clock.was
-    (stop _ c.byte.ensures c.in_err-ha.was (search rules))
+    then _ c.in_ok-clock.ensures
+    (stop _ c.in_err-ha.ensures (search rules))
 
 pub returns-then-clock-eq0 : goal.returns-then-clock-eq0
 unfolding detailed
 returns-then-clock-eq0 c =
     let none : (eqb c.in_ok-clock.clock 0 || eqb c.in_ok-ha.ha 0) ≡ true = search rules in
-    then _ c.word.ensures c.in_ok-clock.was
-    (then _ c.byte.ensures c.in_ok-ha.was
+    then _ c.in_ok-clock.ensures
+    (then _ c.in_ok-ha.ensures
     (as_of (picked _ _ _ none) (gives refl)))
 
 pub returns : goal.returns
 unfolding detailed
 returns c =
     let none : (eqb c.in_ok-clock.clock 0 || eqb c.in_ok-ha.ha 0) ≡ false = search rules in
-    then _ c.word.ensures c.in_ok-clock.was
-    (then _ c.byte.ensures c.in_ok-ha.was
+    then _ c.in_ok-clock.ensures
+    (then _ c.in_ok-ha.ensures
     (as_of (picked_not _ _ _ none) c.take_timing.ensures))

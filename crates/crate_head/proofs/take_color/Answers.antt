@@ -6,25 +6,25 @@ use Rattle.crate_head.proofs.take_color.Goals as goal
 
 pub returns-in_err-rg : goal.returns-in_err-rg
 unfolding color
-returns-in_err-rg c = stop_two _ c.two.ensures c.in_err-rg.was (search rules)
+returns-in_err-rg c = stop_two _ c.in_err-rg.ensures (search rules)
 
 pub returns-in_err-rx : goal.returns-in_err-rx
 unfolding color
 returns-in_err-rx c =
-    then_two _ c.two.ensures c.in_ok-rg.was
-    (stop_four _ c.four.ensures c.in_err-rx.was (search rules))
+    then_two _ c.in_ok-rg.ensures
+    (stop_four _ c.in_err-rx.ensures (search rules))
 
 pub returns-in_err-bx : goal.returns-in_err-bx
 unfolding color
 returns-in_err-bx c =
-    then_two _ c.two.ensures c.in_ok-rg.was
-    (then_four _ c.four.ensures c.in_ok-rx.was
-    (stop_four _ c.four-2.ensures c.in_err-bx.was (search rules)))
+    then_two _ c.in_ok-rg.ensures
+    (then_four _ c.in_ok-rx.ensures
+    (stop_four _ c.in_err-bx.ensures (search rules)))
 
 pub returns : goal.returns
 unfolding color
 returns c =
-    then_two _ c.two.ensures c.in_ok-rg.was
-    (then_four _ c.four.ensures c.in_ok-rx.was
-    (then_four _ c.four-2.ensures c.in_ok-bx.was
+    then_two _ c.in_ok-rg.ensures
+    (then_four _ c.in_ok-rx.ensures
+    (then_four _ c.in_ok-bx.ensures
     (gives cc)))

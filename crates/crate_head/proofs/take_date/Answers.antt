@@ -6,8 +6,8 @@ use Rattle.crate_head.proofs.take_date.Goals as goal
 
 pub returns-in_err-week : goal.returns-in_err-week
 unfolding date
-returns-in_err-week c = stop_two _ c.two.ensures c.in_err-week.was (search rules)
+returns-in_err-week c = stop_two _ c.in_err-week.ensures (search rules)
 
 pub returns : goal.returns
 unfolding date
-returns c = then_two _ c.two.ensures c.in_ok-week.was (gives refl)
+returns c = then_two _ c.in_ok-week.ensures (gives refl)

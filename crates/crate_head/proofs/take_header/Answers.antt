@@ -6,26 +6,26 @@ use Rattle.crate_head.proofs.take_header.Goals as goal
 
 pub returns-in_err-a : goal.returns-in_err-a
 unfolding header
-returns-in_err-a c = stop _ c.long.ensures c.in_err-a.was (search rules)
+returns-in_err-a c = stop _ c.in_err-a.ensures (search rules)
 
 pub returns-then-a : goal.returns-then-a
 unfolding header
-returns-then-a c = then _ c.long.ensures c.in_ok-a.was (fails _ 2 _ (ne_eqb _ _ c.if-a.true))
+returns-then-a c = then _ c.in_ok-a.ensures (fails _ 2 _ (ne_eqb _ _ c.if-a.true))
 
 pub returns-in_err-b : goal.returns-in_err-b
 unfolding header
 returns-in_err-b c =
-    then _ c.long.ensures c.in_ok-a.was (holds _ 2 _ (eq-eqb _ _ c.if-a.false)
-    (stop _ c.long-2.ensures c.in_err-b.was (search rules)))
+    then _ c.in_ok-a.ensures (holds _ 2 _ (eq-eqb _ _ c.if-a.false)
+    (stop _ c.in_err-b.ensures (search rules)))
 
 pub returns-then-b-ne16777215 : goal.returns-then-b-ne16777215
 unfolding header
 returns-then-b-ne16777215 c =
-    then _ c.long.ensures c.in_ok-a.was (holds _ 2 _ (eq-eqb _ _ c.if-a.false)
-    (then _ c.long-2.ensures c.in_ok-b.was (fails _ 2 _ (ne_eqb _ _ c.if-b-ne16777215.true))))
+    then _ c.in_ok-a.ensures (holds _ 2 _ (eq-eqb _ _ c.if-a.false)
+    (then _ c.in_ok-b.ensures (fails _ 2 _ (ne_eqb _ _ c.if-b-ne16777215.true))))
 
 pub returns : goal.returns
 unfolding header
 returns c =
-    then _ c.long.ensures c.in_ok-a.was (holds _ 2 _ (eq-eqb _ _ c.if-a.false)
-    (then _ c.long-2.ensures c.in_ok-b.was (holds _ 2 _ (eq-eqb _ _ c.if-b-ne16777215.false) (gives refl))))
+    then _ c.in_ok-a.ensures (holds _ 2 _ (eq-eqb _ _ c.if-a.false)
+    (then _ c.in_ok-b.ensures (holds _ 2 _ (eq-eqb _ _ c.if-b-ne16777215.false) (gives refl))))

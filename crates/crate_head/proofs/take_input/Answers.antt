@@ -6,8 +6,8 @@ use Rattle.crate_head.proofs.take_input.Goals as goal
 
 pub returns-in_err-byte : goal.returns-in_err-byte
 unfolding input
-returns-in_err-byte c = stop _ c.byte.ensures c.in_err-byte.was (search rules)
+returns-in_err-byte c = stop _ c.in_err-byte.ensures (search rules)
 
 pub returns : goal.returns
 unfolding input
-returns c = then _ c.byte.ensures c.in_ok-byte.was (gives (ap Ok c.input_of.ensures))
+returns c = then _ c.in_ok-byte.ensures (gives (ap Ok c.input_of.ensures))

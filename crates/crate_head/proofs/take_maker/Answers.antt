@@ -6,8 +6,8 @@ use Rattle.crate_head.proofs.take_maker.Goals as goal
 
 pub returns-in_err-k : goal.returns-in_err-k
 unfolding maker
-returns-in_err-k c = stop _ c.word.ensures c.in_err-k.was (search rules)
+returns-in_err-k c = stop _ c.in_err-k.ensures (search rules)
 
 pub returns : goal.returns
 unfolding maker
-returns c = then _ c.word.ensures c.in_ok-k.was (gives (ap Ok c.maker_of.ensures))
+returns c = then _ c.in_ok-k.ensures (gives (ap Ok c.maker_of.ensures))

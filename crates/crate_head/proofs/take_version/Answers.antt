@@ -6,8 +6,8 @@ use Rattle.crate_head.proofs.take_version.Goals as goal
 
 pub returns-in_err-version : goal.returns-in_err-version
 unfolding version
-returns-in_err-version c = stop_two _ c.two.ensures c.in_err-version.was (search rules)
+returns-in_err-version c = stop_two _ c.in_err-version.ensures (search rules)
 
 pub returns : goal.returns
 unfolding version
-returns c = then_two _ c.two.ensures c.in_ok-version.was (gives refl)
+returns c = then_two _ c.in_ok-version.ensures (gives refl)
