@@ -1,4 +1,4 @@
--- The definition of the slots, and what holds of their sizes.
+-- The definition of the slots, what holds of their sizes, and how the code fills its lists.
 pub mod Slots
-pub mod Answers
 pub mod Sizes
+pub mod Filling

@@ -1,15 +1,14 @@
 -- Where they are accepted the first slot takes 18 bytes, and a later one 18 as well, but 5 with tag 10, and 23 with some white points; and how much the
 -- slots list at the most.
-use Rattle.std.specs.Prelude.{ℕ, zero, suc, ◌+◌, ◌*◌, ◌≤◌, ◌≡◌, List, [], ◌∷◌, Bool, true, false, eqb, length, drop}
+use Rattle.std.specs.Prelude.{ℕ, zero, suc, ◌+◌, ◌*◌, ◌≤◌, ◌≡◌, List, [], ◌∷◌, Bool, true, false, eqb, length, drop, Option, Some, None}
 use Rattle.std.proofs.Common.{arith, length-append}
 use Rattle.steps.specs.Steps.{done, ◌>>=◌}
 use Rattle.steps.specs.Answers.{Ends, ends_then}
 use Rattle.crate_timings.specs.Pairs.{pairs}
 use Rattle.crate_timings.specs.Sizes.{ends_pairs}
+use Rattle.crate_record.specs.declared.DetailedTiming.{DetailedTiming}
 use Rattle.crate_detailed.specs.Detailed.{detailed}
 use Rattle.crate_detailed.specs.Sizes.{slot_bytes, ends_detailed}
-use Rattle.crate_detailed.specs.declared.MaybeTiming.{MaybeTiming}
-use Rattle.crate_detailed.specs.declared.MaybeTiming.TheVariants as Maybe
 use Rattle.crate_descriptors.specs.Descriptors.{closing, tagged, descriptor}
 use Rattle.crate_descriptors.specs.Sizes.{one, takes_closing, longer, left, size, is_nothing, is_white, Says, Tagged, ends_tagged}
 use Rattle.crate_descriptors.proofs.Sizes.{exact_descriptor}
@@ -118,9 +117,9 @@ ends_by Six m e =
     ends_then (pairs 6) _ (λ xs k. (length xs ≤ 6) × (k ≡ 12)) _ (ends_pairs 6)
     (λ xs k r. ends_then (closing 0) _ (λ _ j. (1 ≤ j) × (j ≤ 1)) _ (takes_closing 0) (λ _ j u. (omega (arith, e, r.1, u), r.0)))
 
-ends_later_slot : (t : MaybeTiming) → Ends (λ x k. Slotted x (slot_bytes t + k)) (said_later t)
-ends_later_slot Maybe.None = ends_then descriptor said_by (λ x m. m + left x ≡ size x) _ exact_descriptor ends_by
-ends_later_slot (Maybe.Some t) = (omega arith, omega arith)
+ends_later_slot : (t : Option DetailedTiming) → Ends (λ x k. Slotted x (slot_bytes t + k)) (said_later t)
+ends_later_slot None = ends_then descriptor said_by (λ x m. m + left x ≡ size x) _ exact_descriptor ends_by
+ends_later_slot (Some t) = (omega arith, omega arith)
 
 -- n later slots of m bytes
 abbrev Later : ℕ → List Said → ℕ → Type 0
@@ -143,9 +142,9 @@ pub record Four (xs : List Said) (m : ℕ) : Type 0 where
   pub points : length (together xs).points ≤ 6
   pub descriptors : length (together xs).descriptors ≤ 3
 
-ends_first : (t : MaybeTiming) (m : ℕ) → m ≡ slot_bytes t → Ends (λ xs k. Four xs (m + k)) (said_first t >>= (λ x. later 3 >>= (λ xs. done (x ∷ xs))))
-ends_first Maybe.None m e = (omega arith, omega arith)
-ends_first (Maybe.Some t) m e =
+ends_first : (t : Option DetailedTiming) (m : ℕ) → m ≡ slot_bytes t → Ends (λ xs k. Four xs (m + k)) (said_first t >>= (λ x. later 3 >>= (λ xs. done (x ∷ xs))))
+ends_first None m e = (omega arith, omega arith)
+ends_first (Some t) m e =
     ends_then (later 3) _ (Later 3) _ (ends_later 3)
     (λ xs k r.
     record {

@@ -1,17 +1,14 @@
 -- The four slots, as the source reads them: what each says, and the plain lists of it.
-use Rattle.std.specs.Prelude.{ℕ, zero, suc, List, [], ◌∷◌, ◌++◌}
+use Rattle.std.specs.Prelude.{ℕ, zero, suc, List, [], ◌∷◌, ◌++◌, Option, Some, None}
+use Rattle.fixed.specs.Fixed.{push, pushed}
 use Rattle.steps.specs.Steps.{Steps, done, refuse, ◌>>=◌, ◌>>◌}
-use Rattle.crate_record.specs.Lists.{standard_timings, detailed_timings, white_points, descriptors, push_standard, pushed}
+use Rattle.crate_record.specs.Lists.{StandardTimings, standard_timings, detailed_timings, white_points, descriptors}
 use Rattle.crate_record.specs.declared.StandardTiming.{StandardTiming}
-use Rattle.crate_record.specs.Lists.{StandardTimings}
 use Rattle.crate_record.specs.declared.DetailedTiming.{DetailedTiming}
 use Rattle.crate_record.specs.declared.WhitePoint.{WhitePoint}
-use Rattle.crate_record.specs.declared.Held.{Held}
 use Rattle.crate_record.specs.declared.MonitorDescriptor.{MonitorDescriptor}
 use Rattle.crate_timings.specs.Pairs.{pairs}
 use Rattle.crate_detailed.specs.Detailed.{detailed}
-use Rattle.crate_detailed.specs.declared.MaybeTiming.{MaybeTiming}
-use Rattle.crate_detailed.specs.declared.MaybeTiming.TheVariants as Maybe
 use Rattle.crate_descriptors.specs.Descriptors.{closing, descriptor}
 use Rattle.crate_descriptors.specs.declared.Points.{Points}
 use Rattle.crate_descriptors.specs.declared.Points.TheVariants.{One, Two}
@@ -38,16 +35,16 @@ said_by Six = do
   done (standards xs)
 
 -- the first slot holds a timing
-abbrev pub said_first : MaybeTiming → Steps Said
-said_first Maybe.None = refuse 3
-said_first (Maybe.Some t) = done (timing t)
+abbrev pub said_first : Option DetailedTiming → Steps Said
+said_first None = refuse 3
+said_first (Some t) = done (timing t)
 
 -- a later one holds a timing or a descriptor
-abbrev pub said_later : MaybeTiming → Steps Said
-said_later Maybe.None = do
+abbrev pub said_later : Option DetailedTiming → Steps Said
+said_later None = do
   x ← descriptor
   said_by x
-said_later (Maybe.Some t) = done (timing t)
+said_later (Some t) = done (timing t)
 
 -- n later slots
 unfoldable pub later : ℕ → Steps (List Said)
@@ -71,10 +68,10 @@ pub record Plain : Type 0 where
   pub standards : List StandardTiming
   pub timings : List DetailedTiming
   pub points : List WhitePoint
-  pub descriptors : List Held
+  pub descriptors : List MonitorDescriptor
 
 -- in this order
-abbrev four : List StandardTiming → List DetailedTiming → List WhitePoint → List Held → Plain
+abbrev four : List StandardTiming → List DetailedTiming → List WhitePoint → List MonitorDescriptor → Plain
 four ss ts ws ds = record { standards = ss; timings = ts; points = ws; descriptors = ds }
 
 abbrev pub lists : Said → Plain
@@ -83,7 +80,7 @@ lists (timing t) = four [] (t ∷ []) [] []
 lists (standards xs) = four xs [] [] []
 lists (points (One p)) = four [] [] (p ∷ []) []
 lists (points (Two p q)) = four [] [] (p ∷ q ∷ []) []
-lists (described d) = four [] [] [] (record { descriptor = d } ∷ [])
+lists (described d) = four [] [] [] (d ∷ [])
 
 abbrev joined : Plain → Plain → Plain
 joined a b = four (a.standards ++ b.standards) (a.timings ++ b.timings) (a.points ++ b.points) (a.descriptors ++ b.descriptors)
@@ -100,7 +97,7 @@ no_lists = record { standard = standard_timings []; detailed = detailed_timings 
 
 unfoldable pub lists_after : StandardTimings → List Said → Lists
 lists_after a xs = record {
-  standard = pushed push_standard a (together xs).standards;
+  standard = pushed (push 26) a (together xs).standards;
   detailed = detailed_timings (together xs).timings;
   points = white_points (together xs).points;
   descriptors = descriptors (together xs).descriptors;

@@ -1,7 +1,7 @@
 -- What a read does to a cursor, and reads one after the other.
 use Rattle.std.specs.Prelude.{ℕ, ◌≡◌, refl, Bool, true, false, Result, Ok, Err}
 use Rattle.std.proofs.Common.{sym, ap, subst, ◌∙◌}
-use Rattle.steps.specs.Steps.{Steps, done, here, ◌>>=◌, run, and_then, ensure}
+use Rattle.steps.specs.Steps.{Steps, done, refuse, here, ◌>>=◌, run, and_then, ensure}
 use Rattle.steps.specs.Leaves.{byte, two, four, outcome, Stands}
 use Rattle.steps.specs.Laws.{run_bind, same_run}
 use Rattle.steps.specs.declared.Cursor.{Cursor}
@@ -58,7 +58,7 @@ pub stop_four : {B : Type 0} (g : ℕ → ℕ → ℕ → ℕ → Steps B) {c c'
 unfolding byte four
 stop_four g t e = stop (λ p. g p.0 p.1 p.2 p.3) t e
 
--- ---- no byte: the place, a value, a test that holds, a test that fails
+-- ---- no byte: the place, a value, a refusal, a test that holds, a test that fails
 
 pub at_place : {A : Type 0} (f : ℕ → Steps A) {c c' : Cursor} {r : Result A Refusal} → Took (f c.at) c r c' → Took (here f) c r c'
 at_place f t = record { lent = t.lent; answer = t.answer; stands = t.stands }
@@ -70,6 +70,9 @@ gives {c = c} e = record {
   stands = subst (λ r. Stands r c.at) (sym e) tt;
 }
 
+pub refuses : {A : Type 0} {k : ℕ} {c : Cursor} → Took {A = A} (refuse k) c (Err (record { number = k; at = c.at })) c
+refuses = record { lent = refl; answer = refl; stands = refl }
+
 pub holds : {B : Type 0} (t : Bool) (k : ℕ) (g : Unit → Steps B) {c c' : Cursor} {r : Result B Refusal} → t ≡ true → Took (g tt) c r c'
     → Took (ensure t k >>= g) c r c'
 holds t k g {c = c} {c' = c'} {r = r} e u = subst (λ (t : Bool). Took (ensure t k >>= g) c r c') (sym e) u
@@ -78,7 +81,7 @@ pub fails : {B : Type 0} (t : Bool) (k : ℕ) (g : Unit → Steps B) {c : Cursor
     → Took (ensure t k >>= g) c (Err (record { number = k; at = c.at })) c
 fails t k g {c = c} e =
     subst (λ (t : Bool). Took (ensure t k >>= g) c (Err (record { number = k; at = c.at })) c) (sym e)
-    (record { lent = refl; answer = refl; stands = refl })
+    refuses
 
 -- one program for an equal one
 pub as_of : {A : Type 0} {p q : Steps A} {c c' : Cursor} {r : Result A Refusal} → p ≡ q → Took q c r c' → Took p c r c'
