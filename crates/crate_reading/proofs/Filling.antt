@@ -1,11 +1,12 @@
 -- The reading as the code goes through it, which fills its arrays part by part, and that this comes to the reading. Assumes nothing.
-use mathlib.Core.Path.{◌≡◌, sym, ◌∙◌}
+use Rattle.std.proofs.Common.{◌≡◌, sym, ◌∙◌}
 use Rattle.steps.specs.Steps.{Steps, done, ◌>>=◌, map}
 use Rattle.steps.specs.Leaves.{byte}
 use Rattle.steps.specs.Laws.{then_then, then_same}
 use Rattle.shared_record.specs.Established.{established_timings}
 use Rattle.crate_record.specs.Lists.{standard_timings}
-use Rattle.crate_record.specs.Filling.{standards_behind}
+use Rattle.fixed.specs.Fixed.{pushed_fixed}
+use Rattle.crate_record.specs.Filler.{blank_standard}
 use Rattle.crate_record.specs.declared.EDID.{EDID}
 use Rattle.crate_head.specs.Head.{front}
 use Rattle.crate_timings.specs.Established.{established}
@@ -39,7 +40,7 @@ reading_filled =
     (λ e. kept (pairs 8) standard_timings _ _ _
     (λ a. kept slots (lists_after (standard_timings a)) _ _ _ (λ xs. shared byte _ _
     (λ n i. done (edid_of f (established_timings e) (record {
-      standard = sym (standards_behind a (together xs).standards) i;
+      standard = sym (pushed_fixed 26 blank_standard a (together xs).standards) i;
       detailed = (lists_after (standard_timings a) xs).detailed;
       points = (lists_after (standard_timings a) xs).points;
       descriptors = (lists_after (standard_timings a) xs).descriptors;

@@ -2,25 +2,20 @@
 #![tactic(auto)]
 
 ghost use Rattle.std.specs.Prelude.{◌≡◌};
+ghost use Rattle.steps.specs.Steps.{map};
 ghost use Rattle.steps.specs.Leaves.{Beside};
+ghost use Rattle.steps.specs.Took.{Took};
 ghost use Rattle.crate_record.specs.Filler.{blank};
-ghost use Rattle.crate_reading.specs.Reading.{answer};
+ghost use Rattle.crate_record.specs.Lists.{standard_timings};
+ghost use Rattle.crate_timings.specs.Pairs.{pairs};
+ghost use Rattle.crate_reading.specs.Reading.{reading, answer};
 ghost use Rattle.crate_reading.specs.Parts.{edid_of};
 
-use crate_head::{Front, FrontRead};
-use crate_record::{ColorCharacteristics, EDID, Reading, Timings};
+use crate_head::Front;
+use crate_record::{ColorCharacteristics, EDID, Reading, StandardTimings, Timings};
 use crate_slots::Lists;
 use shared_record::EstablishedTimings;
-use steps::{ByteRead, Cursor, End, Refusal};
-
-fn refuse(f: Refusal) -> Reading
-    ensures { (result.edid ≡ blank) × (result.end ≡ End.Refused f) }
-{
-    Reading {
-        edid: crate_record::blank_edid(),
-        end: End::Refused(f),
-    }
-}
+use steps::{Cursor, Refusal};
 
 // The parts, rearranged: the timing information all in one place.
 fn edid_of(front: Front, established: EstablishedTimings, lists: Lists, extensions: u8) -> EDID
@@ -49,43 +44,38 @@ fn edid_of(front: Front, established: EstablishedTimings, lists: Lists, extensio
     }
 }
 
+// The eight pairs before the slots.
+fn take_eight(c: &mut Cursor) -> Result<StandardTimings, Refusal>
+    ensures { Took (map standard_timings (pairs 8)) c.old result c.new }
+{
+    let mut list = crate_timings::no_standard();
+    crate_timings::take_pairs(c, 8, &mut list)?;
+    Ok(list)
+}
+
+fn take_edid(c: &mut Cursor) -> Result<EDID, Refusal>
+    ensures { Took reading c.old result c.new }
+{
+    let front = crate_head::take_front(c)?;
+    let established = crate_timings::take_established(c)?;
+    let eight = take_eight(c)?;
+    let lists = crate_slots::take_descriptors(c, eight)?;
+    let extensions = c.byte()?;
+    Ok(edid_of(front, established, lists, extensions))
+}
+
 pub fn read(s: &[u8]) -> Reading
     ensures { Beside blank result.edid result.end (answer s.now) }
 {
-    let mut c = Cursor { at: 0 };
-    let front = match crate_head::take_front(c, s) {
-        FrontRead::Refused(f) => return refuse(f),
-        FrontRead::Got(x, next) => {
-            c = next;
-            x
-        }
-    };
-    let flags = crate_timings::take_established(c, s);
-    let flagged = flags.end;
-    match flagged {
-        End::Refused(f) => return refuse(f),
-        End::At(next) => c = next,
-    }
-    let eight = crate_timings::take_pairs(c, s, 8);
-    let paired = eight.end;
-    match paired {
-        End::Refused(f) => return refuse(f),
-        End::At(next) => c = next,
-    }
-    let standard = eight.list;
-    let four = crate_slots::take_descriptors(c, s, standard);
-    let described = four.end;
-    match described {
-        End::Refused(f) => return refuse(f),
-        End::At(next) => c = next,
-    }
-    let established = flags.list;
-    let lists = four.lists;
-    match c.byte(s) {
-        ByteRead::Refused(f) => refuse(f),
-        ByteRead::Got(extensions, last) => Reading {
-            edid: edid_of(front, established, lists, extensions),
-            end: End::At(last),
+    let mut c = Cursor { bytes: s, at: 0 };
+    match take_edid(&mut c) {
+        Ok(edid) => Reading {
+            edid,
+            end: Ok(c.at),
+        },
+        Err(f) => Reading {
+            edid: crate_record::blank_edid(),
+            end: Err(f),
         },
     }
 }

@@ -87,6 +87,10 @@ fails t k g {c = c} e =
 pub as_of : {A : Type 0} {p q : Steps A} {c c' : Cursor} {r : Result A Refusal} → p ≡ q → Took q c r c' → Took p c r c'
 as_of {c = c} {c' = c'} {r = r} e t = subst (λ p. Took p c r c') (sym e) t
 
+-- one answer for an equal one
+pub answers : {A : Type 0} {p : Steps A} {c c' : Cursor} {r r' : Result A Refusal} → Took p c r c' → r' ≡ r → Took p c r' c'
+answers {p = p} {c = c} {c' = c'} t e = subst (λ r. Took p c r c') (sym e) t
+
 -- ---- in a loop: what is left of a program, from where the cursor stands
 abbrev pub Left : {A : Type 0} → Steps A → Cursor → Steps A → Cursor → Type 0
 Left {A} p old q c = (r : Result A Refusal) (new : Cursor) → Took q c r new → Took p old r new
