@@ -1,13 +1,11 @@
 -- The room that each part of the crate reading wants, its values aside; k bytes are left after it.
-use Rattle.std.specs.Prelude.{ℕ, zero, suc, ◌+◌, ◌-◌, ◌||◌, ◌≡◌, refl, eqb}
+use Rattle.std.specs.Prelude.{ℕ, zero, suc, ◌+◌, ◌-◌, ◌||◌, ◌≡◌, refl, eqb, Option}
 use Rattle.std.proofs.Common.{sym, subst, le_refl, arith}
 use Rattle.steps.specs.Steps.{Steps, done}
 use Rattle.steps.specs.Leaves.{byte, word, long}
 use Rattle.timing.specs.Axis.{across_of, down_of}
-use Rattle.timing.specs.declared.AcrossRead.{AcrossRead}
-use Rattle.timing.specs.declared.AcrossRead.TheVariants as Across
-use Rattle.timing.specs.declared.DownRead.{DownRead}
-use Rattle.timing.specs.declared.DownRead.TheVariants as Down
+use Rattle.timing.specs.declared.Across.{Across}
+use Rattle.timing.specs.declared.Down.{Down}
 use Rattle.tags.specs.Tags.{tag_of}
 use Rattle.tags.specs.declared.Tag.{Tag}
 use Rattle.crate_record.specs.declared.WhitePoint.{WhitePoint}
@@ -75,11 +73,11 @@ room_text k =
 
 -- ---- a timing
 
-room_fitted : (h : AcrossRead) (v : DownRead) (k : ℕ) → Room (λ _. k) k (fitted h v)
+room_fitted : (h : Option Across) (v : Option Down) (k : ℕ) → Room (λ _. k) k (fitted h v)
 unfolding fitted
-room_fitted Across.Over v k = tt
-room_fitted (Across.Fits h) Down.Over k = tt
-room_fitted (Across.Fits h) (Down.Fits v) k = le_refl k
+room_fitted Option.None v k = tt
+room_fitted (Option.Some h) Option.None k = tt
+room_fitted (Option.Some h) (Option.Some v) k = le_refl k
 
 room_axes : (ha k : ℕ) → Room (λ _. k) (9 then k) (axes ha)
 unfolding axes byte
