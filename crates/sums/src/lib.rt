@@ -4,14 +4,13 @@
 ghost use Rattle.std.specs.Prelude.{◌≡◌, ◌==◌};
 ghost use Rattle.sums.specs.Sum.{byte_sum};
 
+#[tactic(auto, using(crate::proofs::Laws::total_step))]
 pub fn byte_sum(s: &[u8]) -> u8
     ensures { result ≡ byte_sum s.now }
 {
     let mut sum: u8 = 0;
-    let mut i = 0;
-    while i < s.len() {
-        sum = std::num::wrapping_add_u8(sum, s[i]);
-        i += 1;
+    for b in s {
+        sum = sum.wrapping_add(*b);
     }
     sum
 }
