@@ -2,7 +2,8 @@
 use Rattle.std.specs.Prelude.{◌≡◌, refl, List, [], ◌∷◌, ◌++◌, Bool, true, false, ℕ, zero, suc, ◌+◌, ◌-◌, ◌*◌, ◌<◌, ◌≤◌, length, set}
 use Rattle.std.proofs.Common.{sym, ap, ◌∙◌, append-nil, add-one, arith, length-append}
 use Rattle.std.proofs.Math.Seq.{append_snoc}
-use Rattle.fixed.specs.Fixed.{pad, count, put_room, more_room, put_pad, more_count, count_at_most}
+use Rattle.fixed.specs.Fixed.{pad, count, put_room, more_room, put_pad, more_count, count_at_most, fixed, push, push_fixed}
+use Rattle.fixed.specs.declared.Fixed.{Fixed}
 
 module _ {ℓ} {A : Type ℓ} where
   -- f 0, then f 1, up to n of them
@@ -69,3 +70,11 @@ module _ {ℓ} {A : Type ℓ} where
     -- the same, by other names
     pub renamed : {items' : List A} {len' : ℕ} → items' ≡ items → len' ≡ len → Holds n d xs items' len'
     renamed is same = record { are = is ∙ h.are; many = same ∙ h.many }
+
+-- a turn of a loop that pushes one element where a test holds
+module _ {A : Type 0} (n : ℕ) (d : A) (xs : List A) (v : A) {l l' : Fixed A n} {t : Bool} (h : l ≡ fixed n d xs) where
+  pub pushed_on : t ≡ true → l' ≡ push n l v → l' ≡ fixed n d (xs ++ when t v)
+  pushed_on e p = p ∙ ap (λ l. push n l v) h ∙ push_fixed n d v xs ∙ ap (λ b. fixed n d (xs ++ when b v)) (sym e)
+
+  pub pushed_off : t ≡ false → l' ≡ l → l' ≡ fixed n d (xs ++ when t v)
+  pushed_off e p = p ∙ h ∙ ap (fixed n d) (sym (append-nil xs)) ∙ ap (λ b. fixed n d (xs ++ when b v)) (sym e)

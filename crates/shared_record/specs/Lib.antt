@@ -1,3 +1,2 @@
--- The list of established timings, made of a plain list, and the laws of a walk that fills it.
+-- The list of established timings, made of a plain list.
 pub mod Established
-pub mod Walk
