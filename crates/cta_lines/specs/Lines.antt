@@ -1,12 +1,11 @@
 -- The listing of a CTA-861 extension: what each line is, byte for byte, and their order.
-use Rattle.std.specs.Prelude.{ℕ, min, cond, List, [], ◌∷◌, eqb, take, drop}
+use Rattle.std.specs.Prelude.{ℕ, min, cond, List, [], ◌∷◌, eqb, take, drop, Ok, Err}
 use Rattle.page.specs.Words.{text, space, newline, field8, hex_of2, flat, each}
 use Rattle.shared_lines.specs.Lines.{refuse_line}
 use Rattle.standard_slot_lines.specs.Lines.{timing_fields}
 use Rattle.steps.specs.declared.Span.{Span}
 use Rattle.standard_record.specs.declared.DetailedTiming.{DetailedTiming}
-use Rattle.standard_record.specs.declared.Verdict.{Verdict}
-use Rattle.standard_record.specs.declared.Verdict.TheVariants.{Accepted, Refused}
+use Rattle.standard_record.specs.Verdict.{Verdict}
 use Rattle.cta_record.specs.declared.VideoDescriptors.{VideoDescriptors}
 use Rattle.cta_record.specs.declared.DataBlock.{DataBlock}
 use Rattle.cta_record.specs.declared.DataBlocks.{DataBlocks}
@@ -49,8 +48,8 @@ record_lines s c =
     flat (head_line c.revision c.offset c.support ∷ video_line c.video ∷ block_lines s c.blocks ∷ timing_lines c.timings ∷ [])
 
 unfoldable pub judged_lines : List ℕ → Cta → Verdict → List ℕ
-judged_lines s c Accepted = flat (text "accept\n" ∷ record_lines s c ∷ [])
-judged_lines s c (Refused f) = refuse_line f
+judged_lines s c (Ok tt) = flat (text "accept\n" ∷ record_lines s c ∷ [])
+judged_lines s c (Err f) = refuse_line f
 
 -- of the extension s
 unfoldable pub listing_of : List ℕ → List ℕ

@@ -1,6 +1,6 @@
 -- Every listing is shorter than a page: the data blocks of an extension that is accepted have no more than 123 bytes, their headers among them.
 use Prim.Native.Nat.{ℕ, suc, ◌+◌, ◌*◌, ◌≤◌, min}
-use Rattle.std.specs.Prelude.{Bool, true, false, cond, ◌≡◌, refl, eqb, length, take, drop}
+use Rattle.std.specs.Prelude.{Bool, true, false, cond, ◌≡◌, refl, eqb, length, take, drop, Ok, Err}
 use mathlib.Core.List.{List, [], ◌∷◌, ◌++◌, flat_map}
 use native.Mathlib.Omega.{arith}
 use Rattle.std.proofs.Math.ListN.{length-append}
@@ -13,8 +13,7 @@ use Rattle.steps.specs.declared.Span.{Span}
 use Rattle.shared_lines.specs.Short.{refuse_length}
 use Rattle.standard_slot_lines.specs.Short.{timing_length}
 use Rattle.standard_record.specs.declared.DetailedTiming.{DetailedTiming}
-use Rattle.standard_record.specs.declared.Verdict.{Verdict}
-use Rattle.standard_record.specs.declared.Verdict.TheVariants.{Accepted, Refused}
+use Rattle.standard_record.specs.Verdict.{Verdict}
 use Rattle.cta_record.specs.Filler.{blank_block}
 use Rattle.cta_record.specs.Seen.{holding}
 use Rattle.cta_record.specs.declared.DataBlock.{DataBlock}
@@ -69,7 +68,7 @@ timing_line_length d = simp length-append (omega (arith, timing_length d))
 
 -- ---- the whole
 
-module _ (s : List ℕ) (ok : (cta_of s).end ≡ Accepted) where
+module _ (s : List ℕ) (ok : (cta_of s).end ≡ Ok tt) where
   blocks_length : length (block_lines s (holding (plain s)).blocks) ≤ 1353
   unfolding block_lines
   blocks_length =
@@ -98,8 +97,8 @@ unfolding listing_of judged_lines flat
 short s = go (cta_of s).end refl
   where
     go : (v : Verdict) → (cta_of s).end ≡ v → length (judged_lines s (cta_of s).cta v) ≤ 2494
-    go Accepted e = rw (record_is s e) (omega (arith, record_length s e, length-append (record_lines s (holding (plain s))) []))
-    go (Refused f) e = omega (arith, refuse_length f)
+    go (Ok tt) e = rw (record_is s e) (omega (arith, record_length s e, length-append (record_lines s (holding (plain s))) []))
+    go (Err f) e = omega (arith, refuse_length f)
 
 pub printed : (s : List ℕ) (out out' : List ℕ) (n : ℕ) → length out ≡ 4096
     → page out' n ≡ page out 0 ▷ listing_of s → (take n out' ≡ listing_of s) × (drop n out' ≡ drop n out)

@@ -103,11 +103,11 @@ fn judged_lines(out: &mut [u8; 4096], at: usize, s: &[u8], c: Cta, end: Verdict)
     ensures { page out.new result ≡ page out.old at ▷ lines.judged_lines s.now c end }
 {
     match end {
-        Verdict::Accepted => {
+        Ok(()) => {
             let n = page::bytes(out, at, b"accept\n");
             record_lines(out, n, s, c)
         }
-        Verdict::Refused(f) => shared_lines::refuse_line(out, at, f),
+        Err(f) => shared_lines::refuse_line(out, at, f),
     }
 }
 

@@ -1,4 +1,5 @@
 -- What the proofs of the two loops cite: the lists as the code holds them, and a turn of each. Assumes nothing.
+use Rattle.std.specs.Prelude.{Ok, None, Some}
 use Prim.Native.Nat.{ℕ, ◌+◌, ◌≤◌, ◌<◌}
 use mathlib.Core.Path.{◌≡◌, refl, ap, ◌∙◌}
 use mathlib.Core.Bool.{true, false}
@@ -10,9 +11,7 @@ use Rattle.bits.specs.Bytes.{part}
 use Rattle.fixed.specs.Gather.{Holds, held_at_most}
 use Rattle.standard_record.specs.Filler.{blank_timing}
 use Rattle.standard_record.specs.declared.DetailedTiming.{DetailedTiming}
-use Rattle.standard_record.specs.declared.Verdict.TheVariants.{Accepted}
 use Rattle.standard_timing.specs.Timing.{timing_in}
-use Rattle.standard_timing.specs.declared.Timed.TheVariants.{Is, Over}
 use Rattle.standard_verdict.specs.Verdict.{refused_at}
 use Rattle.cta_record.specs.Filler.{blank_block}
 use Rattle.cta_record.specs.declared.DataBlock.{DataBlock}
@@ -29,7 +28,7 @@ use Rattle.cta_reading.specs.Room.{Few, few, flat_snoc, flat_at_most, timing_1, 
 pub record Blocks (s : List ℕ) (video : List ℕ) (shown : ℕ) (blocks : List DataBlock) (count p : ℕ) : Type 0 where
   pub ps : List ℕ
   pub row : BlocksUpTo s ps p
-  pub fair : first (judge_block s) ps ≡ Accepted
+  pub fair : first (judge_block s) ps ≡ Ok tt
   pub bytes : Holds 119 0 (flat_map (video_at s) ps) video shown
   pub others : Holds 123 blank_block (flat_map (block_at s) ps) blocks count
 
@@ -37,7 +36,7 @@ pub no_blocks : (s : List ℕ) {video : List ℕ} {blocks : List DataBlock} → 
 unfolding flat_map
 no_blocks s h k = record { ps = []; row = none; fair = refl; bytes = h; others = k }
 
-module _ {s : List ℕ} {video : List ℕ} {shown : ℕ} {blocks : List DataBlock} {count p : ℕ} (before : before_blocks s ≡ Accepted) (w : Blocks s video shown blocks count p) (on : p < offset_in s) where
+module _ {s : List ℕ} {video : List ℕ} {shown : ℕ} {blocks : List DataBlock} {count p : ℕ} (before : before_blocks s ≡ Ok tt) (w : Blocks s video shown blocks count p) (on : p < offset_in s) where
   so_far : Few s w.ps p
   so_far = few s w.row (omega (arith, below_128 s before))
 
@@ -79,7 +78,7 @@ module _ {s : List ℕ} {video : List ℕ} {shown : ℕ} {blocks : List DataBloc
         }
 
 -- the walk has come to its end
-pub blocks_are : {s : List ℕ} {video : List ℕ} {shown : ℕ} {blocks : List DataBlock} {count p : ℕ} → length s ≡ 128 → before_blocks s ≡ Accepted
+pub blocks_are : {s : List ℕ} {video : List ℕ} {shown : ℕ} {blocks : List DataBlock} {count p : ℕ} → length s ≡ 128 → before_blocks s ≡ Ok tt
     → Blocks s video shown blocks count p → p ≤ 127 → offset_in s ≤ p
     → BlocksOf s (record { items = video; len = shown }) (record { items = blocks; len = count })
 unfolding blocks_in
@@ -99,14 +98,14 @@ blocks_are {s} whole before w last off =
 pub record Timings (s : List ℕ) (items : List DetailedTiming) (len p : ℕ) : Type 0 where
   pub ps : List ℕ
   pub row : Row (is_timing s) (λ p. p + 18) (start (offset_in s)) ps p
-  pub fair : first (judge_timing s) ps ≡ Accepted
+  pub fair : first (judge_timing s) ps ≡ Ok tt
   pub held : Holds 6 blank_timing (flat_map (timing_at s) ps) items len
 
 pub no_timings : (s : List ℕ) {items : List DetailedTiming} → Holds 6 blank_timing [] items 0 → Timings s items 0 (start (offset_in s))
 unfolding flat_map
 no_timings s h = record { ps = []; row = none; fair = refl; held = h }
 
-module _ {s : List ℕ} {items : List DetailedTiming} {len p : ℕ} (before : before_blocks s ≡ Accepted) (w : Timings s items len p) (on : is_timing s p ≡ true) where
+module _ {s : List ℕ} {items : List DetailedTiming} {len p : ℕ} (before : before_blocks s ≡ Ok tt) (w : Timings s items len p) (on : is_timing s p ≡ true) where
   timings_left : length w.ps < 6
   timings_left =
       omega (arith, spaced w.row, timing_ends s p on, start_bounds (offset_in s) (head_of s before).offset)
@@ -114,7 +113,7 @@ module _ {s : List ℕ} {items : List DetailedTiming} {len p : ℕ} (before : be
   pub timing_room : len < 6
   timing_room = omega (arith, held_at_most w.held, flat_at_most (timing_at s) 1 (timing_1 s) w.ps, timings_left)
 
-  pub timing_more : {t : DetailedTiming} {items' : List DetailedTiming} {len' : ℕ} → timing_in (part s p 18) ≡ Is t
+  pub timing_more : {t : DetailedTiming} {items' : List DetailedTiming} {len' : ℕ} → timing_in (part s p 18) ≡ Some t
       → (len < 6 → Holds 6 blank_timing (flat_map (timing_at s) w.ps ++ t ∷ []) items' len') → Timings s items' len' (p + 18)
   timing_more e h =
       record {
@@ -124,15 +123,15 @@ module _ {s : List ℕ} {items : List DetailedTiming} {len p : ℕ} (before : be
         held = rw (flat_snoc, e) (h timing_room);
       }
 
-  pub timing_over : timing_in (part s p 18) ≡ Over → first (judge_timing s) (timings_in s) ≡ refused_at 6 p
+  pub timing_over : timing_in (part s p 18) ≡ None → first (judge_timing s) (timings_in s) ≡ refused_at 6 p
   timing_over e = rw timings_from (refused_here (judge_timing s) 6 w.row w.fair timings_left on (ap (judged p) e))
 
 pub record TimingsOf (s : List ℕ) (items : List DetailedTiming) (len : ℕ) : Type 0 where
-  pub fair : first (judge_timing s) (timings_in s) ≡ Accepted
+  pub fair : first (judge_timing s) (timings_in s) ≡ Ok tt
   pub held : Holds 6 blank_timing (plain s).timings items len
 
 -- the walk has come to its end
-pub timings_are : {s : List ℕ} {items : List DetailedTiming} {len p : ℕ} → before_blocks s ≡ Accepted → Timings s items len p → p ≤ 127
+pub timings_are : {s : List ℕ} {items : List DetailedTiming} {len p : ℕ} → before_blocks s ≡ Ok tt → Timings s items len p → p ≤ 127
     → is_timing s p ≡ false → TimingsOf s items len
 timings_are {s} before w last off =
     let six : length w.ps ≤ 6 = omega (arith, spaced w.row, start_bounds (offset_in s) (head_of s before).offset) in

@@ -1,5 +1,5 @@
 -- What holds of every extension's reading: it ends as told, refusals are bounded, and one that is accepted is tiled by its blocks and shows all that it says.
-use Rattle.std.specs.Prelude.{ℕ, ◌+◌, ◌≤◌, ◌<◌, ◌≡◌, Bool, cond, ◌⊎◌, eqb, leb, length}
+use Rattle.std.specs.Prelude.{ℕ, ◌+◌, ◌≤◌, ◌<◌, ◌≡◌, Bool, cond, ◌⊎◌, eqb, leb, length, Ok, Err, None, Option, Some}
 use Rattle.std.proofs.Math.Path.{refl, ap, subst}
 use Rattle.std.proofs.Common.{◌∙◌}
 use Rattle.std.proofs.Math.Bool.{true, false}
@@ -10,11 +10,9 @@ use Rattle.std.proofs.Math.Dec.{ltb}
 use borrow.Author.Tests.{eqb-false, ltb-true, ltb-false, leb-true, leb-false, lt-leb, ne_eqb}
 use Rattle.bits.specs.Bytes.{part}
 use Rattle.steps.specs.declared.Refusal.{Refusal}
-use Rattle.standard_record.specs.declared.Verdict.{Verdict}
-use Rattle.standard_record.specs.declared.Verdict.TheVariants.{Accepted, Refused}
+use Rattle.standard_record.specs.declared.DetailedTiming.{DetailedTiming}
+use Rattle.standard_record.specs.Verdict.{Verdict}
 use Rattle.standard_timing.specs.Timing.{timing_in}
-use Rattle.standard_timing.specs.declared.Timed.{Timed}
-use Rattle.standard_timing.specs.declared.Timed.TheVariants.{Is, Over}
 use Rattle.standard_verdict.specs.Verdict.{must, ◌then◌}
 use Rattle.standard_verdict.specs.Laws.{then_first, then_second, must_hold}
 use Rattle.cta_record.specs.Seen.{seen, Fits, shows}
@@ -30,7 +28,7 @@ module _ (s : List ℕ) where
   offset_from_4 o h = ⊎_elim (λ z. absurd (omega arith)) (λ b. b) (offset_is (offset_in s) o)
 
   -- data blocks of which none is refused go on up to the offset
-  filled : is_offset (offset_in s) ≡ true → 0 < offset_in s → first (judge_block s) (blocks_in s) ≡ Accepted → BlocksUpTo s (blocks_in s) (offset_in s)
+  filled : is_offset (offset_in s) ≡ true → 0 < offset_in s → first (judge_block s) (blocks_in s) ≡ Ok tt → BlocksUpTo s (blocks_in s) (offset_in s)
   unfolding blocks_in
   filled o h e =
       let d = offset_from_4 o h in
@@ -40,28 +38,28 @@ module _ (s : List ℕ) where
       let here : w.0 ≡ offset_in s = omega arith in
       subst (Row (λ p. ltb p (offset_in s)) (end_at s) 4 _) here w.1
 
-  block_ends : Head s → (f : Refusal) → first (judge_block s) (blocks_in s) ≡ Refused f → Ends s (Refused f)
+  block_ends : Head s → (f : Refusal) → first (judge_block s) (blocks_in s) ≡ Err f → Ends s (Err f)
   unfolding blocks_in
   block_ends h f e = go (leb (end_at s x.at) (offset_in s)) refl x.refused
     where
       x : Stop (λ p. ltb p (offset_in s)) (end_at s) (judge_block s) f 4
       x = stop (judge_block s) (walked (λ p. ltb p (offset_in s)) (end_at s) 123 4).1 e
 
-      go : (t : Bool) → leb (end_at s x.at) (offset_in s) ≡ t → must t 13 x.at ≡ Refused f → Ends s (Refused f)
+      go : (t : Bool) → leb (end_at s x.at) (offset_in s) ≡ t → must t 13 x.at ≡ Err f → Ends s (Err f)
       go true l e = clash e
       go false l e = subst (Ends s) e (block_past x.before x.at h x.row (ltb-true _ _ x.more_at) (leb-false _ _ l))
 
   timing_ends_it : Head s → (0 < offset_in s → BlocksUpTo s (blocks_in s) (offset_in s)) → (f : Refusal)
-      → first (judge_timing s) (timings_in s) ≡ Refused f → Ends s (Refused f)
+      → first (judge_timing s) (timings_in s) ≡ Err f → Ends s (Err f)
   unfolding timings_in
   timing_ends_it h tiles f = go (eqb (offset_in s) 0) refl
     where
       here : 0 < offset_in s → (x : Stop (is_timing s) (λ p. p + 18) (judge_timing s) f (offset_in s))
-          → (t : Timed) → timing_in (part s x.at 18) ≡ t → judged x.at t ≡ Refused f → Ends s (Refused f)
-      here d x (Is t) i e = clash e
-      here d x Over i e = subst (Ends s) e (porch_too_long x.before x.at h (tiles d) x.row x.fair x.more_at i)
+          → (t : Option DetailedTiming) → timing_in (part s x.at 18) ≡ t → judged x.at t ≡ Err f → Ends s (Err f)
+      here d x (Some t) i e = clash e
+      here d x None i e = subst (Ends s) e (porch_too_long x.before x.at h (tiles d) x.row x.fair x.more_at i)
 
-      go : (t : Bool) → eqb (offset_in s) 0 ≡ t → first (judge_timing s) (cond t [] (along (is_timing s) (λ p. p + 18) 6 (offset_in s))) ≡ Refused f → Ends s (Refused f)
+      go : (t : Bool) → eqb (offset_in s) 0 ≡ t → first (judge_timing s) (cond t [] (along (is_timing s) (λ p. p + 18) 6 (offset_in s))) ≡ Err f → Ends s (Err f)
       go true z e = clash e
       go false z e =
           let x = stop (judge_timing s) (walked (is_timing s) (λ p. p + 18) 6 (offset_in s)).1 e in
@@ -74,13 +72,13 @@ module _ (s : List ℕ) where
       wrong_length wrong_sum wrong_tag wrong_offset
       (λ h. blocks h (first (judge_block s) (blocks_in s)) refl))
     where
-      timings : Head s → first (judge_block s) (blocks_in s) ≡ Accepted → (v : Verdict) → first (judge_timing s) (timings_in s) ≡ v → Ends s v
-      timings h e Accepted i = accepted h (λ d. filled h.offset d e) i
-      timings h e (Refused f) i = timing_ends_it h (λ d. filled h.offset d e) f i
+      timings : Head s → first (judge_block s) (blocks_in s) ≡ Ok tt → (v : Verdict) → first (judge_timing s) (timings_in s) ≡ v → Ends s v
+      timings h e (Ok tt) i = accepted h (λ d. filled h.offset d e) i
+      timings h e (Err f) i = timing_ends_it h (λ d. filled h.offset d e) f i
 
       blocks : Head s → (v : Verdict) → first (judge_block s) (blocks_in s) ≡ v → Ends s (v then first (judge_timing s) (timings_in s))
-      blocks h Accepted e = timings h e (first (judge_timing s) (timings_in s)) refl
-      blocks h (Refused f) e = block_ends h f e
+      blocks h (Ok tt) e = timings h e (first (judge_timing s) (timings_in s)) refl
+      blocks h (Err f) e = block_ends h f e
 
 bounded_end : {s : List ℕ} {v : Verdict} → Ends s v → Bounded v
 bounded_end (wrong_length a) = (omega arith, omega arith, omega arith)
@@ -104,7 +102,7 @@ module _ (s : List ℕ) where
       go true i e = i
       go false i e = (omega arith, omega arith, i)
 
-module _ (s : List ℕ) (ok : (cta_of s).end ≡ Accepted) where
+module _ (s : List ℕ) (ok : (cta_of s).end ≡ Ok tt) where
   pub head : Head s
   head = head_of s (then_first _ _ (then_first _ _ (passed s ok)))
 

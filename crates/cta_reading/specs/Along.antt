@@ -1,9 +1,8 @@
 -- Places one behind the other, and the first refusal along them.
-use Rattle.std.specs.Prelude.{ℕ, zero, suc, ◌≤◌, ◌<◌, ◌≡◌, refl, Bool, true, false, cond, List, [], ◌∷◌, ◌++◌, ◌⊎◌, length}
+use Rattle.std.specs.Prelude.{ℕ, zero, suc, ◌≤◌, ◌<◌, ◌≡◌, refl, Bool, true, false, cond, List, [], ◌∷◌, ◌++◌, ◌⊎◌, length, Ok, Err}
 use Rattle.std.proofs.Common.{ap, ◌∙◌, inl, inr, ⊎_elim, arith}
 use Rattle.steps.specs.declared.Refusal.{Refusal}
-use Rattle.standard_record.specs.declared.Verdict.{Verdict}
-use Rattle.standard_record.specs.declared.Verdict.TheVariants.{Accepted, Refused}
+use Rattle.standard_record.specs.Verdict.{Verdict}
 use Rattle.standard_verdict.specs.Verdict.{◌then◌}
 use Rattle.standard_verdict.specs.Laws.{then_first, then_second}
 
@@ -14,7 +13,7 @@ along more behind (suc n) p = cond (more p) (p ∷ along more behind n (behind p
 
 -- the first refusal, or none
 abbrev pub first : (ℕ → Verdict) → List ℕ → Verdict
-first judge [] = Accepted
+first judge [] = Ok tt
 first judge (p ∷ ps) = judge p then first judge ps
 
 -- places from p on, each behind the one before, at each of which the test holds, and q behind the last
@@ -24,10 +23,10 @@ pub data Row (more : ℕ → Bool) (behind : ℕ → ℕ) : ℕ → List ℕ →
 
 -- ---- laws
 
-pub clash : {A : Type 0} {f : Refusal} → Accepted ≡ Refused f → A
+pub clash : {A : Type 0} {f : Refusal} → (Ok tt) ≡ Err f → A
 clash e = let z : ◌≡◌ {A = ℕ} 0 1 = cc in absurd (omega arith)
 
-pub first_append : (judge : ℕ → Verdict) (ps qs : List ℕ) → first judge ps ≡ Accepted → first judge (ps ++ qs) ≡ first judge qs
+pub first_append : (judge : ℕ → Verdict) (ps qs : List ℕ) → first judge ps ≡ Ok tt → first judge (ps ++ qs) ≡ first judge qs
 first_append judge [] qs e = refl
 first_append judge (p ∷ ps) qs e = rw (then_first (judge p) (first judge ps) e) (first_append judge ps qs (then_second (judge p) _ e))
 
@@ -37,8 +36,8 @@ module _ {more : ℕ → Bool} {behind : ℕ → ℕ} where
   row_snoc (step m r) e = step m (row_snoc r e)
 
   -- a row comes no further than its places allow of which none is refused
-  pub row_below : (judge : ℕ → Verdict) (most : ℕ) → ((p : ℕ) → more p ≡ true → judge p ≡ Accepted → behind p ≤ most)
-      → {p q : ℕ} {ps : List ℕ} → p ≤ most → Row more behind p ps q → first judge ps ≡ Accepted → q ≤ most
+  pub row_below : (judge : ℕ → Verdict) (most : ℕ) → ((p : ℕ) → more p ≡ true → judge p ≡ Ok tt → behind p ≤ most)
+      → {p q : ℕ} {ps : List ℕ} → p ≤ most → Row more behind p ps q → first judge ps ≡ Ok tt → q ≤ most
   row_below judge most each h none e = h
   row_below judge most each {p} h (step m r) e = row_below judge most each (each p m (then_first _ _ e)) r (then_second (judge p) _ e)
 
@@ -50,8 +49,8 @@ module _ {more : ℕ → Bool} {behind : ℕ → ℕ} where
   all_passed (suc n) {p} (step m r) h e = rw m (ap (λ l. p ∷ l) (all_passed n r (omega arith) e))
 
   -- a row of which none is refused comes to a place that is
-  pub refused_here : (judge : ℕ → Verdict) {f : Refusal} (n : ℕ) {p q : ℕ} {ps : List ℕ} → Row more behind p ps q → first judge ps ≡ Accepted
-      → length ps < n → more q ≡ true → judge q ≡ Refused f → first judge (along more behind n p) ≡ Refused f
+  pub refused_here : (judge : ℕ → Verdict) {f : Refusal} (n : ℕ) {p q : ℕ} {ps : List ℕ} → Row more behind p ps q → first judge ps ≡ Ok tt
+      → length ps < n → more q ≡ true → judge q ≡ Err f → first judge (along more behind n p) ≡ Err f
   refused_here judge zero r fair h m v = absurd (omega arith)
   refused_here judge (suc n) none fair h m v = rw (m, v)
   refused_here judge (suc n) {p} {ps = x ∷ ps} (step m r) fair h k v =
@@ -62,21 +61,21 @@ pub record Stop (more : ℕ → Bool) (behind : ℕ → ℕ) (judge : ℕ → Ve
   pub before : List ℕ
   pub at : ℕ
   pub row : Row more behind p before at
-  pub fair : first judge before ≡ Accepted
+  pub fair : first judge before ≡ Ok tt
   pub more_at : more at ≡ true
-  pub refused : judge at ≡ Refused f
+  pub refused : judge at ≡ Err f
 
 pub stop : {more : ℕ → Bool} {behind : ℕ → ℕ} (judge : ℕ → Verdict) {f : Refusal} {p q : ℕ} {ps : List ℕ} → Row more behind p ps q
-    → first judge ps ≡ Refused f → Stop more behind judge f p
+    → first judge ps ≡ Err f → Stop more behind judge f p
 stop judge none e = clash e
 stop {more} {behind} judge {f} {p} {ps = x ∷ ps} (step m r) e = go (judge p) refl e (stop judge r)
   where
-    go : (v : Verdict) → judge p ≡ v → (v then first judge ps) ≡ Refused f
-        → (first judge ps ≡ Refused f → Stop more behind judge f (behind p)) → Stop more behind judge f p
-    go Accepted j e again =
+    go : (v : Verdict) → judge p ≡ v → (v then first judge ps) ≡ Err f
+        → (first judge ps ≡ Err f → Stop more behind judge f (behind p)) → Stop more behind judge f p
+    go (Ok tt) j e again =
         let x = again e in
         record { before = p ∷ x.before; at = x.at; row = step m x.row; fair = rw j x.fair; more_at = x.more_at; refused = x.refused }
-    go (Refused g) j e again = record { before = []; at = p; row = none; fair = refl; more_at = m; refused = j ∙ e }
+    go (Err g) j e again = record { before = []; at = p; row = none; fair = refl; more_at = m; refused = j ∙ e }
 
 -- a walk comes to where the test fails, unless it has all the places that it may have
 pub walked : (more : ℕ → Bool) (behind : ℕ → ℕ) (n p : ℕ)

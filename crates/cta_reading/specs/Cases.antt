@@ -1,5 +1,5 @@
 -- Worked cases of the definition, as entries of one list under one claim. antt computes each.
-use Rattle.std.specs.Prelude.{ℕ, zero, suc, ◌+◌, false, ◌≡◌, refl, take, replicate, set}
+use Rattle.std.specs.Prelude.{ℕ, zero, suc, ◌+◌, false, ◌≡◌, refl, take, replicate, set, Ok}
 use mathlib.Core.List.{List, [], ◌∷◌, ◌++◌, flat_map}
 use Rattle.sums.specs.Joined.{checksum}
 use Rattle.timing.specs.Axis.{pixels, lines, back_porch, across_of, down_of}
@@ -7,7 +7,6 @@ use Rattle.timing.specs.declared.SyncPolarity.TheVariants.{Positive}
 use Rattle.timing.specs.declared.StereoType.TheVariants as Stereo
 use Rattle.standard_record.specs.declared.DetailedTiming.{DetailedTiming}
 use Rattle.standard_record.specs.declared.Sync.TheVariants.{DigitalSeparate}
-use Rattle.standard_record.specs.declared.Verdict.TheVariants.{Accepted}
 use Rattle.standard_timing.specs.Timing.{timing_in}
 use Rattle.standard_verdict.specs.Verdict.{refused_at}
 use Rattle.cta_record.specs.Filler.{blank}
@@ -27,7 +26,7 @@ extension d body = begins (0x02 ∷ 0x03 ∷ d ∷ 0x71 ∷ body)
 -- what it shows
 abbrev pub showing : ℕ → List ℕ → List DataBlock → List DetailedTiming → CtaReading
 showing d video blocks timings =
-    record { cta = holding (record { revision = 3; offset = d; support = 0x71; video = video; blocks = blocks; timings = timings }); end = Accepted }
+    record { cta = holding (record { revision = 3; offset = d; support = 0x71; video = video; blocks = blocks; timings = timings }); end = Ok tt }
 
 abbrev pub refused : ℕ → ℕ → CtaReading
 refused n at = record { cta = blank; end = refused_at n at }

@@ -1,16 +1,13 @@
 -- The reading of a CTA-861 extension s: data blocks from byte 4 up to the offset d, which is byte 2, and timings of 18 bytes from d on.
-use Rattle.std.specs.Prelude.{ℕ, ◌+◌, ◌≡◌, Bool, not, cond, ◌&&◌, ◌||◌, eqb, ltb, leb, length}
+use Rattle.std.specs.Prelude.{ℕ, ◌+◌, ◌≡◌, Bool, not, cond, ◌&&◌, ◌||◌, eqb, ltb, leb, length, Ok, Err, None, Option, Some}
 use mathlib.Core.List.{List, [], ◌∷◌, flat_map}
 use Rattle.bits.specs.Fields.{digits}
 use Rattle.bits.specs.Bytes.{◌!◌, part}
 use Rattle.sums.specs.Sum.{byte_sum}
 use Rattle.steps.specs.One.{one_value}
 use Rattle.standard_record.specs.declared.DetailedTiming.{DetailedTiming}
-use Rattle.standard_record.specs.declared.Verdict.{Verdict}
-use Rattle.standard_record.specs.declared.Verdict.TheVariants.{Accepted, Refused}
+use Rattle.standard_record.specs.Verdict.{Verdict}
 use Rattle.standard_timing.specs.Timing.{clock_in, timing_in}
-use Rattle.standard_timing.specs.declared.Timed.{Timed}
-use Rattle.standard_timing.specs.declared.Timed.TheVariants.{Is, Over}
 use Rattle.standard_verdict.specs.Verdict.{refused_at, must, ◌then◌}
 use Rattle.cta_record.specs.Filler.{blank}
 use Rattle.cta_record.specs.Seen.{Seen, holding}
@@ -60,16 +57,16 @@ is_timing s p = leb (p + 18) 127 && not (eqb (clock_in (part s p 18)) 0)
 unfoldable pub timings_in : List ℕ → List ℕ
 timings_in s = cond (eqb (offset_in s) 0) [] (along (is_timing s) (λ p. p + 18) 6 (offset_in s))
 
-abbrev pub judged : ℕ → Timed → Verdict
-judged p (Is t) = Accepted
-judged p Over = refused_at 6 p
+abbrev pub judged : ℕ → Option DetailedTiming → Verdict
+judged p (Some t) = Ok tt
+judged p None = refused_at 6 p
 
 abbrev pub judge_timing : List ℕ → ℕ → Verdict
 judge_timing s p = judged p (timing_in (part s p 18))
 
-abbrev pub listed : Timed → List DetailedTiming
-listed (Is t) = t ∷ []
-listed Over = []
+abbrev pub listed : Option DetailedTiming → List DetailedTiming
+listed (Some t) = t ∷ []
+listed None = []
 
 abbrev pub timing_at : List ℕ → ℕ → List DetailedTiming
 timing_at s p = listed (timing_in (part s p 18))
@@ -104,8 +101,8 @@ plain s = record {
 
 -- beside a refusal the record is the filler
 abbrev pub beside : Verdict → Cta → CtaReading
-beside Accepted c = record { cta = c; end = Accepted }
-beside (Refused f) c = record { cta = blank; end = Refused f }
+beside (Ok tt) c = record { cta = c; end = Ok tt }
+beside (Err f) c = record { cta = blank; end = Err f }
 
 unfoldable pub cta_of : List ℕ → CtaReading
 cta_of s = beside (verdict_of s) (holding (plain s))

@@ -1,5 +1,5 @@
 -- What an extension has passed whose data blocks and timings are looked at.
-use Rattle.std.specs.Prelude.{ℕ, ◌+◌, ◌≤◌, ◌≡◌, Bool, ◌&&◌, ◌||◌, ◌⊎◌, ltb, leb, length}
+use Rattle.std.specs.Prelude.{ℕ, ◌+◌, ◌≤◌, ◌≡◌, Bool, ◌&&◌, ◌||◌, ◌⊎◌, ltb, leb, length, Ok}
 use Rattle.std.proofs.Math.Path.{refl}
 use Rattle.std.proofs.Common.{inl, inr, ⊎_elim, arith}
 use Rattle.std.proofs.Math.Bool.{true, false, cond}
@@ -8,8 +8,7 @@ use Rattle.std.proofs.Math.Dec.{eqb}
 use borrow.Author.Tests.{eqb-true, eqb-false, leb-true, ne_eqb}
 use Rattle.bits.specs.Bytes.{◌!◌}
 use Rattle.sums.specs.Sum.{byte_sum}
-use Rattle.standard_record.specs.declared.Verdict.{Verdict}
-use Rattle.standard_record.specs.declared.Verdict.TheVariants.{Accepted}
+use Rattle.standard_record.specs.Verdict.{Verdict}
 use Rattle.standard_verdict.specs.Verdict.{refused_at, must, ◌then◌}
 use Rattle.cta_reading.specs.Along.{along, Row}
 use Rattle.cta_reading.specs.Cta.{offset_in, end_at, is_timing, timings_in, is_offset, before_blocks}
@@ -59,7 +58,7 @@ module _ (s : List ℕ) where
       → (length s ≡ 128 → (byte_sum s ≡ 0 → ⊥) → P (refused_at 8 127))
       → (length s ≡ 128 → byte_sum s ≡ 0 → (s ! 0 ≡ 0x02 → ⊥) → P (refused_at 12 0))
       → (length s ≡ 128 → byte_sum s ≡ 0 → s ! 0 ≡ 0x02 → is_offset (offset_in s) ≡ false → P (refused_at 13 2))
-      → (Head s → P Accepted) → P (before_blocks s)
+      → (Head s → P (Ok tt)) → P (before_blocks s)
   unfolding before_blocks
   before_by P r7 r8 r12 r13 ok = go (eqb (length s) 128) refl (eqb (byte_sum s) 0) refl (eqb (s ! 0) 0x02) refl (is_offset (offset_in s)) refl
     where

@@ -1,13 +1,12 @@
 -- How much data blocks and timings that lie one behind the other can say.
-use Rattle.std.specs.Prelude.{ℕ, ◌+◌, ◌*◌, ◌/◌, ◌^◌, ◌≤◌, ◌≡◌, Bool, true, false, cond, eqb, length, drop}
+use Rattle.std.specs.Prelude.{ℕ, ◌+◌, ◌*◌, ◌/◌, ◌^◌, ◌≤◌, ◌≡◌, Bool, true, false, cond, eqb, length, drop, None, Option, Some}
 use Rattle.std.proofs.Common.{sym, mod-lt, pow_pos, length-take}
 use mathlib.Core.List.{List, [], ◌∷◌, ◌++◌, flat_map, append-nil, append_assoc}
 use native.Mathlib.Omega.{arith}
 use Rattle.std.proofs.Math.ListN.{length-append}
 use Rattle.bits.specs.Bytes.{◌!◌, part}
+use Rattle.standard_record.specs.declared.DetailedTiming.{DetailedTiming}
 use Rattle.standard_timing.specs.Timing.{timing_in}
-use Rattle.standard_timing.specs.declared.Timed.{Timed}
-use Rattle.standard_timing.specs.declared.Timed.TheVariants.{Is, Over}
 use Rattle.cta_reading.specs.Along.{Row, none, step}
 use Rattle.cta_reading.specs.Cta.{tag_at, length_at, end_at, video_at, data_block, block_at, listed, timing_at}
 
@@ -48,9 +47,9 @@ module _ (s : List ℕ) (p : ℕ) where
   pub timing_1 : length (timing_at s p) ≤ 1
   timing_1 = go (timing_in (part s p 18))
     where
-      go : (t : Timed) → length (listed t) ≤ 1
-      go (Is t) = omega arith
-      go Over = omega arith
+      go : (t : Option DetailedTiming) → length (listed t) ≤ 1
+      go (Some t) = omega arith
+      go None = omega arith
 
 -- ---- of a chain
 

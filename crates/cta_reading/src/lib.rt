@@ -17,11 +17,11 @@ use standard_timing::Timed;
 use steps::{Refusal, Span};
 
 fn refuse(f: Refusal) -> CtaReading
-    ensures { result ≡ record { cta = blank; end = Verdict.Refused f } }
+    ensures { result ≡ record { cta = blank; end = Err f } }
 {
     CtaReading {
         cta: cta_record::blank_cta(),
-        end: Verdict::Refused(f),
+        end: Err(f),
     }
 }
 
@@ -48,7 +48,7 @@ fn before_blocks(s: &[u8]) -> Verdict
     if !is_offset(s[2]) {
         return standard_verdict::refused_at(13, 2);
     }
-    Verdict::Accepted
+    Ok(())
 }
 
 // ---- timings
@@ -100,7 +100,7 @@ fn read_timings(s: &[u8], video: VideoDescriptors, blocks: DataBlocks) -> CtaRea
                 len: timed,
             },
         },
-        end: Verdict::Accepted,
+        end: Ok(()),
     }
 }
 
@@ -120,7 +120,7 @@ fn append(video: &mut [u8; 119], n: usize, run: &[u8]) -> usize
 }
 
 fn read_blocks(s: &[u8]) -> CtaReading
-    requires { (length s.now ≡ 128) × (before_blocks s.now ≡ Verdict.Accepted) }
+    requires { (length s.now ≡ 128) × (before_blocks s.now ≡ Ok tt) }
     ensures { result ≡ cta_of s.now }
 {
     let offset = s[2] as usize;
@@ -165,7 +165,7 @@ pub fn read_cta(s: &[u8]) -> CtaReading
     ensures { result ≡ cta_of s.now }
 {
     match before_blocks(s) {
-        Verdict::Refused(f) => refuse(f),
-        Verdict::Accepted => read_blocks(s),
+        Err(f) => refuse(f),
+        Ok(()) => read_blocks(s),
     }
 }

@@ -1,7 +1,7 @@
 -- What the standard reading makes of the specimen, and of six more blocks: one with an analog input and as many pairs as there can be, one
 -- with a white point and ranges, one with two timings; and of any revision one with a ratio of code 0, one with other bytes from the week to the
 -- features, and one with three ranges.
-use Rattle.std.specs.Prelude.{ℕ, ◌*◌, true, false, List, [], ◌∷◌, ◌++◌, map, take, drop}
+use Rattle.std.specs.Prelude.{ℕ, ◌*◌, true, false, List, [], ◌∷◌, ◌++◌, map, take, drop, Ok, None, Some}
 use Rattle.fixed.specs.Fixed.{pad}
 use Rattle.timing.specs.Axis.{pixels, lines}
 use Rattle.timing.specs.declared.SyncPolarity.TheVariants.{Positive}
@@ -28,11 +28,9 @@ use Rattle.standard_record.specs.declared.VideoInput.{VideoInput}
 use Rattle.standard_record.specs.declared.VideoInput.TheVariants.{Analog, Digital, Interface}
 use Rattle.standard_record.specs.declared.ImageSize.{ImageSize}
 use Rattle.standard_record.specs.declared.ImageSize.TheVariants as Size
-use Rattle.standard_record.specs.declared.Gamma.TheVariants as Gamma
 use Rattle.standard_record.specs.declared.DisplayType.TheVariants.{RGBColor}
 use Rattle.standard_record.specs.declared.Kind.{Kind}
 use Rattle.standard_record.specs.declared.Kind.TheVariants.{Typed, Encodings}
-use Rattle.standard_record.specs.declared.Verdict.TheVariants.{Accepted}
 use Rattle.standard_record.specs.declared.StandardReading.{StandardReading}
 use Rattle.standard_verdict.specs.Verdict.{refused_at}
 use Rattle.demands.specs.Specimen.{specimen}
@@ -144,7 +142,7 @@ showing head timings timed points pointed standards listed entries entered =
         display = record {
           input = head.input;
           size = head.size;
-          gamma = Gamma.Some 200;
+          gamma = Some 200;
           features = record {
             standby = false;
             suspend = false;
@@ -167,7 +165,7 @@ showing head timings timed points pointed standards listed entries entered =
         descriptors = record { items = entries; len = entered };
         extensions = 0;
       };
-      end = Accepted;
+      end = Ok tt;
     }
 
 abbrev mode : ℕ → ℕ → ℕ → ℕ → StandardTiming
@@ -204,7 +202,7 @@ ranged t = Range (record { vmin = 56; vmax = 75; hmin = 30000; hmax = 83000; clo
 
 unfoldable pub range_shows : StandardReading
 range_shows =
-    showing (old 3 (Digital true)) (one_timing 800) 1 (pad 6 blank_white (held_point.wrap 2 (record { index = 2; place = record { x = 322; y = 338 }; gamma = Gamma.None }) ∷ [])) 1
+    showing (old 3 (Digital true)) (one_timing 800) 1 (pad 6 blank_white (held_point.wrap 2 (record { index = 2; place = record { x = 322; y = 338 }; gamma = None }) ∷ [])) 1
     (pad 26 blank_standard (held_pair.wrap 0 (mode 1280 5 4 60) ∷ [])) 1
     (pad 3 blank_held (held.wrap 3 (ranged (GTF 80000 80 0 128 40)) ∷ held.wrap 4 (ranged None) ∷ [])) 2
 

@@ -1,9 +1,8 @@
 -- What a C program learns from the number that `edid_pick` answers, whatever the block, the limits and the numbers lent.
-use Rattle.std.specs.Prelude.{ℕ, ◌<◌, ◌≤◌, ◌≡◌, refl, List, [], ◌∷◌, ◌++◌, ◌↔◌, length, drop, replicate}
+use Rattle.std.specs.Prelude.{ℕ, ◌<◌, ◌≤◌, ◌≡◌, refl, List, [], ◌∷◌, ◌++◌, ◌↔◌, length, drop, replicate, Ok, Err}
 use Rattle.std.proofs.Common.{ap, ◌∙◌, arith}
 use Rattle.steps.specs.declared.Refusal.{Refusal}
 use Rattle.timing.specs.Axis.{pixels, lines}
-use Rattle.standard_record.specs.declared.Verdict.TheVariants.{Accepted, Refused}
 use Rattle.standard_reading.specs.Block.{standard_of}
 use Rattle.picking.specs.Best.{Best, NoneQualifies}
 use Rattle.picking.specs.declared.Limits.{Limits}
@@ -37,7 +36,7 @@ module _ (l : Limits) (s lent : List ℕ) where
       by a (best i b h e) z = (i, (b, refl))
 
   -- and it is 0 wherever there is a best
-  pub best_is_zero : (i : ℕ) → Best l (timings_in (standard_of s)) i → 14 ≤ length lent → (standard_of s).end ≡ Accepted → number ≡ 0
+  pub best_is_zero : (i : ℕ) → Best l (timings_in (standard_of s)) i → 14 ≤ length lent → (standard_of s).end ≡ Ok tt → number ≡ 0
   best_is_zero i b h e = ap (λ a. a.0) ((picked_exactly l (standard_of s) lent (0, numbers_of b.timing ++ drop 14 lent)).1 (best i b h e))
 
   -- any other number: all were kept
@@ -51,13 +50,13 @@ module _ (l : Limits) (s lent : List ℕ) where
       by a (best i b h e) z = absurd (z refl)
 
   -- 14: the block is accepted, and no timing of it qualifies
-  pub fourteen_exactly : number ≡ 14 ↔ ((14 ≤ length lent) × ((standard_of s).end ≡ Accepted) × NoneQualifies l (timings_in (standard_of s)))
+  pub fourteen_exactly : number ≡ 14 ↔ ((14 ≤ length lent) × ((standard_of s).end ≡ Ok tt) × NoneQualifies l (timings_in (standard_of s)))
   fourteen_exactly = (
     by (pick_of l (standard_of s) lent) meant,
     λ h. ap (λ a. a.0) ((picked_exactly l (standard_of s) lent (14, lent)).1 (none h.0 h.1 h.2)),
   )
     where
-      by : (a : ℕ × List ℕ) → Meant a → a.0 ≡ 14 → (14 ≤ length lent) × ((standard_of s).end ≡ Accepted) × NoneQualifies l (timings_in (standard_of s))
+      by : (a : ℕ × List ℕ) → Meant a → a.0 ≡ 14 → (14 ≤ length lent) × ((standard_of s).end ≡ Ok tt) × NoneQualifies l (timings_in (standard_of s))
       by a (too_few h) z = absurd (omega (arith, z))
       by a (unread f h e) z = absurd (omega (arith, z, refusal_2_to_9 s f e))
       by a (none h e n) z = (h, e, n)
@@ -76,13 +75,13 @@ module _ (l : Limits) (s lent : List ℕ) where
 
   -- 2 to 9: the reading's refusal
   pub two_to_nine_exactly : (n : ℕ) → 2 ≤ n → n ≤ 9
-      → number ≡ n ↔ ((14 ≤ length lent) × ((f : Refusal) × (((standard_of s).end ≡ Refused f) × (f.number ≡ n))))
+      → number ≡ n ↔ ((14 ≤ length lent) × ((f : Refusal) × (((standard_of s).end ≡ Err f) × (f.number ≡ n))))
   two_to_nine_exactly n low high = (
     by (pick_of l (standard_of s) lent) meant,
     λ h. ap (λ a. a.0) ((picked_exactly l (standard_of s) lent (h.1.0.number, lent)).1 (unread h.1.0 h.0 h.1.1.0)) ∙ h.1.1.1,
   )
     where
-      by : (a : ℕ × List ℕ) → Meant a → a.0 ≡ n → (14 ≤ length lent) × ((f : Refusal) × (((standard_of s).end ≡ Refused f) × (f.number ≡ n)))
+      by : (a : ℕ × List ℕ) → Meant a → a.0 ≡ n → (14 ≤ length lent) × ((f : Refusal) × (((standard_of s).end ≡ Err f) × (f.number ≡ n)))
       by a (too_few h) z = absurd (omega (arith, z))
       by a (unread f h e) z = (h, (f, (e, z)))
       by a (none h e m) z = absurd (omega (arith, z))

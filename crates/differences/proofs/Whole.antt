@@ -1,6 +1,6 @@
 -- The list of differences is whole: without a mark the two readings of a block part in nothing but what `Converted` carries over, and in the maker. Of a block that
 -- has the mark of the revision alone that is so where no offsets are added to range limits, and the rest holds without a word on it.
-use Rattle.std.specs.Prelude.{ℕ, ◌≡◌, refl, true, false, List, eqb, length}
+use Rattle.std.specs.Prelude.{ℕ, ◌≡◌, refl, true, false, List, eqb, length, Ok}
 use Rattle.std.proofs.Common.{sym, subst, ◌∙◌, eq-eqb}
 use Rattle.std.proofs.Math.Path.{ap}
 use Rattle.std.proofs.lemmas.Bool.{false≢true}
@@ -11,7 +11,6 @@ use Rattle.crate_record.specs.declared.EDID.{EDID}
 use Rattle.crate_reading.specs.Reading.{parts, answer}
 use Rattle.crate_reading.specs.Sizes.{parts_of}
 use Rattle.standard_record.specs.Seen.{seen as standard_seen}
-use Rattle.standard_record.specs.declared.Verdict.TheVariants.{Accepted}
 use Rattle.sums.specs.Sum.{byte_sum}
 use Rattle.standard_verdict.specs.Laws.{has_header}
 use Rattle.standard_verdict.specs.Verdict.{must, ◌then◌, before_slots}
@@ -30,7 +29,7 @@ use Rattle.differences.proofs.Parts.{parts_along, read_parts}
 
 module _ (s : List ℕ) (block : Block s) (clear : Clear s) where
   -- where both readings accept it, the two records agree, unless offsets are added to range limits
-  pub offsets_apart : NoOffsets s → (e : EDID) (n : ℕ) → answer s ≡ got e n → (standard_of s).end ≡ Accepted → Agree s (seen e) (standard_seen (standard_of s).edid)
+  pub offsets_apart : NoOffsets s → (e : EDID) (n : ℕ) → answer s ≡ got e n → (standard_of s).end ≡ Ok tt → Agree s (seen e) (standard_seen (standard_of s).edid)
   unfolding converted product_in
   offsets_apart still e n h a =
       let q = crate_demands.nothing_dropped s e n h in
@@ -55,7 +54,7 @@ module _ (s : List ℕ) (block : Block s) (clear : Clear s) where
       end_is_verdict s ∙ judged_slots s r.1 ∙ rw (eq-eqb (length s) 128 block.size, r.0)
 
   -- what the standard reading accepts, the crate reading refuses with 5 alone, for a text that is filled up otherwise
-  pub standard_only_by_a_text : (k n : ℕ) → (standard_of s).end ≡ Accepted → answer s ≡ refused k n → (k ≡ 5) × (in_slots other_fill s ≡ true)
+  pub standard_only_by_a_text : (k n : ℕ) → (standard_of s).end ≡ Ok tt → answer s ≡ refused k n → (k ≡ 5) × (in_slots other_fill s ≡ true)
   standard_only_by_a_text k n a h =
       let header = has_header s (accepted_before s a) in
       let F : ℕ → Type 0 = λ j. (j ≡ 5) × (in_slots other_fill s ≡ true) in
@@ -65,7 +64,7 @@ module _ (s : List ℕ) (block : Block s) (clear : Clear s) where
       (λ i l j said. not_refused j (start i) (ap (λ x. judge x (start i)) (sym said) ∙ accepted_slot s a i l)) (λ e. (refl, e))))
 
   -- so without such a text it accepts too
-  pub both_accept : (standard_of s).end ≡ Accepted → in_slots other_fill s ≡ false → (e : EDID) × (answer s ≡ got e 127)
+  pub both_accept : (standard_of s).end ≡ Ok tt → in_slots other_fill s ≡ false → (e : EDID) × (answer s ≡ got e 127)
   both_accept a f = go (answer s) refl
     where
       go : (o : Outcome EDID) → answer s ≡ o → (e : EDID) × (answer s ≡ got e 127)
@@ -73,7 +72,7 @@ module _ (s : List ℕ) (block : Block s) (clear : Clear s) where
       go (refused k n) h = absurd (false≢true (sym f ∙ (standard_only_by_a_text k n a h).1))
 
 -- so it is of a block without a mark
-pub differences_are_whole : (s : List ℕ) → Block s → Unmarked s → (e : EDID) (n : ℕ) → answer s ≡ got e n → (standard_of s).end ≡ Accepted
+pub differences_are_whole : (s : List ℕ) → Block s → Unmarked s → (e : EDID) (n : ℕ) → answer s ≡ got e n → (standard_of s).end ≡ Ok tt
     → Agree s (seen e) (standard_seen (standard_of s).edid)
 unfolding marks_in
 differences_are_whole s block unmarked = offsets_apart s block unmarked.clear (rw unmarked.revision)

@@ -1,6 +1,6 @@
 -- No mark is superfluous: for each a block that has it alone, that both readings accept and read apart. antt computes them. And the specimen, which has
 -- no mark: what `Whole` asks of a block holds of some.
-use Rattle.std.specs.Prelude.{ℕ, ◌+◌, ◌<◌, ◌≡◌, refl, Bool, true, false, cond, List, [], ◌∷◌, ◌++◌, eqb, ltb, length, take, drop, set}
+use Rattle.std.specs.Prelude.{ℕ, ◌+◌, ◌<◌, ◌≡◌, refl, Bool, true, false, cond, List, [], ◌∷◌, ◌++◌, eqb, ltb, length, take, drop, set, Ok, None}
 use Rattle.std.proofs.Common.{ap, arith, ltb-true}
 use Rattle.std.proofs.lemmas.Bool.{false≢true, eqb-false}
 use Rattle.std.specs.Float.{binary32}
@@ -24,8 +24,6 @@ use Rattle.crate_detailed.specs.Detailed.{sync_of as crate_sync_of, fitted, axes
 use Rattle.crate_slots.specs.Slots.{later, slots}
 use Rattle.crate_reading.specs.Reading.{answer, parts, plain as crate_plain, reading}
 use Rattle.standard_record.specs.Seen.{seen as standard_seen}
-use Rattle.standard_record.specs.declared.Gamma.{Gamma}
-use Rattle.standard_record.specs.declared.Verdict.TheVariants.{Accepted}
 use Rattle.standard_record.specs.Filler.{blank}
 use Rattle.standard_timing.specs.Timing.{timing_in}
 use Rattle.standard_parts.specs.Text.{every}
@@ -54,7 +52,7 @@ pub record Parting (s : List ℕ) (marks : Marks) : Type 0 where
   pub crate : EDID
   pub bytes : ℕ
   pub answered : answer s ≡ got crate bytes
-  pub accepted : (standard_of s).end ≡ Accepted
+  pub accepted : (standard_of s).end ≡ Ok tt
   pub apart : Agree s (seen crate) (standard_seen (standard_of s).edid) → ⊥
 
 -- ---- by computation
@@ -78,7 +76,7 @@ record Computes (x : Exhibit) : Type 0 where
   pub bytes : every (λ b. ltb b 256) x.block ≡ true
   pub marked : marks_in x.block ≡ x.marks
   pub answered : answer x.block ≡ got (record_in (answer x.block)) (taken (answer x.block))
-  pub accepted : (standard_of x.block).end ≡ Accepted
+  pub accepted : (standard_of x.block).end ≡ Ok tt
   pub differs :
       eqb (x.look (crate_shows x.block))
       (x.look (converted (crate_shows x.block).product.maker (standard_seen (standard_of x.block).edid))) ≡ false
@@ -220,10 +218,10 @@ each_mark_parts m = go m.active m.dummy m.index m.gamma m.ratio m.revision
     go false false false false true true h = absurd (omega arith)
 
 -- the gamma that stands for none is that of no byte
-pub never_that_gamma : (v : ℕ) → v < 256 → crate_gamma_of v ≡ point_gamma Gamma.None → ⊥
+pub never_that_gamma : (v : ℕ) → v < 256 → crate_gamma_of v ≡ point_gamma None → ⊥
 unfolding of_bits to_bits of_int add div
 never_that_gamma v h e =
-    eqb-false _ _ (none_of 256 (λ k. eqb (to_bits binary32 (crate_gamma_of k)) (to_bits binary32 (point_gamma Gamma.None))) refl v h) (ap (to_bits binary32) e)
+    eqb-false _ _ (none_of 256 (λ k. eqb (to_bits binary32 (crate_gamma_of k)) (to_bits binary32 (point_gamma None))) refl v h) (ap (to_bits binary32) e)
 
 -- ---- no mark
 

@@ -1,7 +1,7 @@
 -- What is no difference: the standard record in the crate record's terms, field by field, but for the maker. The numbers of the slots are left out,
 -- which the crate record does not have, and so is which of two kinds an analog composite sync is. What revision 4 brought is carried back to what the crate
 -- reading has in its place.
-use Rattle.std.specs.Prelude.{ℕ, true, false, map, Float}
+use Rattle.std.specs.Prelude.{ℕ, true, false, map, Float, None, Option, Some}
 use Rattle.std.specs.Float.{binary32}
 use Rattle.std.specs.Float.Ieee.{div}
 use Rattle.bits.specs.Fields.{bit, by_code}
@@ -34,7 +34,6 @@ use Rattle.standard_record.specs.declared.Week.{Week}
 use Rattle.standard_record.specs.declared.Product.{Product}
 use Rattle.standard_record.specs.declared.VideoInput.{VideoInput}
 use Rattle.standard_record.specs.declared.ImageSize.{ImageSize}
-use Rattle.standard_record.specs.declared.Gamma.{Gamma}
 use Rattle.standard_record.specs.declared.DisplayType.{DisplayType}
 use Rattle.standard_record.specs.declared.Kind.{Kind}
 use Rattle.standard_record.specs.declared.Features.{Features}
@@ -66,9 +65,9 @@ abbrev pub chromaticity_from : Chromaticity → CrateChromaticity
 chromaticity_from p = record { x = over p.x f1024; y = over p.y f1024 }
 
 -- hundredths to a number
-abbrev pub gamma_from : Gamma → CrateGamma
-gamma_from Gamma.None = CrateGamma.None
-gamma_from (Gamma.Some n) = CrateGamma.Some (over n f100)
+abbrev pub gamma_from : Option ℕ → CrateGamma
+gamma_from None = CrateGamma.None
+gamma_from (Some n) = CrateGamma.Some (over n f100)
 
 -- width to height
 abbrev pub ratio_from : Ratio → Float
@@ -141,9 +140,9 @@ colors_from c = record {
 -- ---- the entries of the lists
 
 -- the crate record has no word for a gamma that is not given; 0 is the gamma of no byte (`never-that-gamma`)
-abbrev pub point_gamma : Gamma → Float
-point_gamma Gamma.None = f0
-point_gamma (Gamma.Some n) = over n f100
+abbrev pub point_gamma : Option ℕ → Float
+point_gamma None = f0
+point_gamma (Some n) = over n f100
 
 abbrev pub point_from : WhitePoint → CratePoint
 point_from p = record { index = p.index; x = over p.place.x f1024; y = over p.place.y f1024; gamma = point_gamma p.gamma }

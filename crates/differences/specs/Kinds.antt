@@ -2,7 +2,7 @@
 -- b0 to b17 are its bytes, `rest` what follows, `at` its place. F is to hold of the number of each refusal: the standard slot is refused with the same
 -- number, but for a text that is filled up with something else than spaces.
 use Prim.Native.Nat.{ℕ, zero, suc, ◌+◌, ◌*◌, ◌<◌}
-use Rattle.std.specs.Prelude.{◌≡◌, Bool, true, cond, not, leb, ltb, drop}
+use Rattle.std.specs.Prelude.{◌≡◌, Bool, true, cond, not, leb, ltb, drop, Ok}
 use Rattle.std.proofs.Math.Path.{refl, sym, ap, subst}
 use Rattle.std.proofs.Common.{◌∙◌}
 use Rattle.std.proofs.Math.Bool.{false}
@@ -34,7 +34,6 @@ use Rattle.crate_slots.specs.Slots as slots
 use Rattle.crate_end.specs.Ends.{said_at}
 use Rattle.standard_record.specs.declared.Descriptor.{Descriptor}
 use Rattle.standard_record.specs.declared.SecondaryTiming.{SecondaryTiming}
-use Rattle.standard_record.specs.declared.Verdict.TheVariants.{Accepted}
 use Rattle.standard_parts.specs.Color.{point_of}
 use Rattle.standard_parts.specs.Text.{text_length, all_spaces}
 use Rattle.standard_parts.specs.Structure.{since4}
@@ -108,7 +107,7 @@ module _ (Still : Type 0) (σ : Structure) (F : ℕ → Type 0) (b0 b1 b2 b3 b4 
 
   -- the standard slot says y, the crate's x, which lists the same where Still holds
   abbrev pub Told : Said → slots.Said → List ℕ → ℕ → Type 0
-  Told y x cs n = (judge y at ≡ Accepted) × (Still → slots.lists x ≡ plain_from (lists y)) × (cs ≡ rest) × (n ≡ at + 18)
+  Told y x cs n = (judge y at ≡ Ok tt) × (Still → slots.lists x ≡ plain_from (lists y)) × (cs ≡ rest) × (n ≡ at + 18)
 
   -- fa
   six_along : (σ ≡ Structure.Below3 → codes_zero slot 5 6 ≡ false) → ((n : ℕ) → by_tag σ Tag.Pairs slot at ≡ refusal n → F n)

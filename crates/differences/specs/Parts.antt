@@ -1,6 +1,6 @@
 -- What is said of the parts of a block without a mark, but for the revision's; that the crate reading reads them so is in proofs/Parts. The standard
 -- verdict on it.
-use Rattle.std.specs.Prelude.{ℕ, zero, suc, ◌+◌, ◌*◌, ◌≡◌, refl, true}
+use Rattle.std.specs.Prelude.{ℕ, zero, suc, ◌+◌, ◌*◌, ◌≡◌, refl, true, Ok, Err}
 use Rattle.std.proofs.Math.Path.{sym}
 use Rattle.std.proofs.Common.{◌∙◌, arith}
 use mathlib.Core.List.{List, [], ◌∷◌, ◌++◌, map, map-append, map-map, append-nil, append_assoc}
@@ -17,8 +17,7 @@ use Rattle.crate_head.specs.declared.Front.{Front}
 use Rattle.crate_slots.specs.Slots as crate
 use Rattle.crate_reading.specs.Reading.{Parts, parts, plain as crate_plain, reading, answer}
 use Rattle.standard_record.specs.Held.{held_point, held_pair, held_timing, held}
-use Rattle.standard_record.specs.declared.Verdict.{Verdict}
-use Rattle.standard_record.specs.declared.Verdict.TheVariants.{Accepted, Refused}
+use Rattle.standard_record.specs.Verdict.{Verdict}
 use Rattle.standard_verdict.specs.Verdict.{refused_at, ◌then◌, is_header, before_slots}
 use Rattle.standard_slots.specs.Said.{lists}
 use Rattle.standard_reading.specs.Slots.{said_in, judged}
@@ -114,9 +113,9 @@ module _ (s : List ℕ) where
 
 -- ---- verdicts
 
-last_accepted : (v : Verdict) → (v then Accepted) ≡ v
-last_accepted Accepted = refl
-last_accepted (Refused f) = refl
+last_accepted : (v : Verdict) → (v then (Ok tt)) ≡ v
+last_accepted (Ok tt) = refl
+last_accepted (Err f) = refl
 
 module _ (s : List ℕ) where
   pub judged_slots : Accepts s 4 0 → judged s 4 ≡ before_slots s
@@ -134,5 +133,5 @@ module _ (s : List ℕ) where
       go (got p m) h = cc
       go (refused j m) h = cc
 
-pub not_refused : {A : Type 0} (n at : ℕ) → refused_at n at ≡ Accepted → A
+pub not_refused : {A : Type 0} (n at : ℕ) → refused_at n at ≡ Ok tt → A
 not_refused n at e = let z : ◌≡◌ {A = ℕ} 0 1 = cc in absurd (omega arith)

@@ -1,6 +1,6 @@
 -- What is said of the four slots of a block without a mark, but for the revision's, one after the other; that both readings take them so is in proofs/Slots.
 use Prim.Native.Nat.{ℕ, zero, suc, ◌+◌, ◌<◌}
-use Rattle.std.specs.Prelude.{◌≡◌, Bool, true, false, ◌&&◌, ◌||◌, cond, List, [], ◌∷◌, leb, ltb}
+use Rattle.std.specs.Prelude.{◌≡◌, Bool, true, false, ◌&&◌, ◌||◌, cond, List, [], ◌∷◌, leb, ltb, Ok}
 use Rattle.std.proofs.Math.Path.{refl}
 use Rattle.std.proofs.Common.{subst, ltb-true, ltb-false, le-leb}
 use Rattle.std.proofs.lemmas.Bool.{false≢true}
@@ -8,7 +8,6 @@ use native.Mathlib.Omega.{arith}
 use Rattle.std.proofs.Math.ListN.{drop}
 use Rattle.bits.specs.Bytes.{◌!◌}
 use Rattle.crate_slots.specs.Slots as crate
-use Rattle.standard_record.specs.declared.Verdict.TheVariants.{Accepted}
 use Rattle.standard_parts.specs.declared.Structure.{Structure}
 use Rattle.standard_parts.specs.Structure.{structure_of, since4}
 use Rattle.standard_head.specs.Head.{structure_in}
@@ -68,7 +67,7 @@ module _ (s : List ℕ) where
   abbrev pub Tells : ℕ → List ℕ → crate.Said → List ℕ → ℕ → Type 0
   Tells i t x cs n =
       let y = said (structure_in s) i t (start i) in
-      (judge y (start i) ≡ Accepted) × (NoOffsets s → crate.lists x ≡ plain_from (lists y)) × (cs ≡ drop (start i + 18) s) × (n ≡ start i + 18)
+      (judge y (start i) ≡ Ok tt) × (NoOffsets s → crate.lists x ≡ plain_from (lists y)) × (cs ≡ drop (start i + 18) s) × (n ≡ start i + 18)
 
   -- what slot i lists, converted
   abbrev pub listed : ℕ → crate.Plain
@@ -77,7 +76,7 @@ module _ (s : List ℕ) where
   -- n slots from i on are accepted
   abbrev pub Accepts : ℕ → ℕ → Type 0
   Accepts zero i = Unit {0}
-  Accepts (suc n) i = (judge (said_in s i) (start i) ≡ Accepted) × Accepts n (suc i)
+  Accepts (suc n) i = (judge (said_in s i) (start i) ≡ Ok tt) × Accepts n (suc i)
 
   -- and the crate reading says xs of them, and lists the same, where no offsets add anything
   abbrev pub All : ℕ → ℕ → List crate.Said → Type 0

@@ -1,8 +1,7 @@
 -- What C is answered of the timing to show, and the lent numbers after it.
-use Rattle.std.specs.Prelude.{ℕ, cond, List, ◌++◌, ltb, length, drop}
+use Rattle.std.specs.Prelude.{ℕ, cond, List, ◌++◌, ltb, length, drop, Ok, Err}
 use Rattle.standard_record.specs.declared.DetailedTimings.{DetailedTimings}
-use Rattle.standard_record.specs.declared.Verdict.{Verdict}
-use Rattle.standard_record.specs.declared.Verdict.TheVariants.{Accepted, Refused}
+use Rattle.standard_record.specs.Verdict.{Verdict}
 use Rattle.standard_record.specs.declared.StandardReading.{StandardReading}
 use Rattle.picking.specs.Best.{listed}
 use Rattle.picking.specs.Score.{choice}
@@ -18,8 +17,8 @@ shown d lent (Choice.Refused n) = (n, lent)
 
 -- of a verdict: the reading's refusal comes first
 abbrev pub judged : Verdict → List ℕ → ℕ × List ℕ → ℕ × List ℕ
-judged Accepted lent a = a
-judged (Refused f) lent a = (f.number, lent)
+judged (Ok tt) lent a = a
+judged (Err f) lent a = (f.number, lent)
 
 abbrev pub pick_of : Limits → StandardReading → List ℕ → ℕ × List ℕ
 pick_of l r lent =

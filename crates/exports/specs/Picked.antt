@@ -1,10 +1,9 @@
 -- What an answer of `edid_pick` means: four cases, in the words of the order.
-use Rattle.std.specs.Prelude.{ℕ, ◌<◌, ◌≤◌, ◌≡◌, refl, Bool, true, false, cond, List, ◌++◌, ◌↔◌, ltb, length, drop}
+use Rattle.std.specs.Prelude.{ℕ, ◌<◌, ◌≤◌, ◌≡◌, refl, Bool, true, false, cond, List, ◌++◌, ◌↔◌, ltb, length, drop, Ok, Err}
 use Rattle.std.proofs.Common.{subst, lt-ltb, le-ltb, ltb-true, ltb-false}
 use Rattle.steps.specs.declared.Refusal.{Refusal}
 use Rattle.standard_record.specs.declared.DetailedTiming.{DetailedTiming}
-use Rattle.standard_record.specs.declared.Verdict.{Verdict}
-use Rattle.standard_record.specs.declared.Verdict.TheVariants.{Accepted, Refused}
+use Rattle.standard_record.specs.Verdict.{Verdict}
 use Rattle.standard_record.specs.declared.StandardReading.{StandardReading}
 use Rattle.picking.specs.Best.{Best, NoneQualifies, Chooses, listed}
 use Rattle.picking.specs.Score.{choice, chooses}
@@ -20,13 +19,13 @@ timings_in r = listed r.edid.timings.detailed
 
 pub data Picked (l : Limits) (r : StandardReading) (lent : List ℕ) : ℕ × List ℕ → Type 0 where
   too_few : length lent < 14 → Picked l r lent (10, lent)
-  unread : (f : Refusal) → 14 ≤ length lent → r.end ≡ Refused f → Picked l r lent (f.number, lent)
-  none : 14 ≤ length lent → r.end ≡ Accepted → NoneQualifies l (timings_in r) → Picked l r lent (14, lent)
-  best : (i : ℕ) (b : Best l (timings_in r) i) → 14 ≤ length lent → r.end ≡ Accepted
+  unread : (f : Refusal) → 14 ≤ length lent → r.end ≡ Err f → Picked l r lent (f.number, lent)
+  none : 14 ≤ length lent → r.end ≡ Ok tt → NoneQualifies l (timings_in r) → Picked l r lent (14, lent)
+  best : (i : ℕ) (b : Best l (timings_in r) i) → 14 ≤ length lent → r.end ≡ Ok tt
       → Picked l r lent (0, numbers_of b.timing ++ drop 14 lent)
 
 module _ (l : Limits) (r : StandardReading) (lent : List ℕ) where
-  by_choice : 14 ≤ length lent → r.end ≡ Accepted → (c : Choice) → Chooses l (timings_in r) c
+  by_choice : 14 ≤ length lent → r.end ≡ Ok tt → (c : Choice) → Chooses l (timings_in r) c
       → Picked l r lent (shown r.edid.timings.detailed lent c)
   by_choice h e (Choice.Index i) b = rw (its_timing l r.edid.timings.detailed i b) (best i b h e)
   by_choice h e (Choice.Refused n) c = rw c.0 (none h e c.1)
@@ -35,8 +34,8 @@ module _ (l : Limits) (r : StandardReading) (lent : List ℕ) where
   answer v = judged v lent (shown r.edid.timings.detailed lent (choice l (timings_in r)))
 
   by_verdict : 14 ≤ length lent → (v : Verdict) → r.end ≡ v → Picked l r lent (answer v)
-  by_verdict h Accepted e = by_choice h e (choice l (timings_in r)) (chooses l (timings_in r))
-  by_verdict h (Refused f) e = unread f h e
+  by_verdict h (Ok tt) e = by_choice h e (choice l (timings_in r)) (chooses l (timings_in r))
+  by_verdict h (Err f) e = unread f h e
 
   picked : Picked l r lent (pick_of l r lent)
   picked = go (ltb (length lent) 14) refl

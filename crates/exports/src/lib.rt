@@ -15,7 +15,7 @@ ghost use Rattle.exports.specs.Pick.{shown, pick_of};
 
 use bursts::Report;
 use picking::{Choice, Limits};
-use standard_record::{DetailedTimings, Verdict};
+use standard_record::DetailedTimings;
 use steps::End;
 use timing::{Lines, Pixels};
 
@@ -128,7 +128,7 @@ pub fn edid_pick(block: &[u8], clock: u32, across: u16, down: u16, numbers: &mut
     let reading = standard_reading::read_standard(block);
     let end = reading.end;
     match end {
-        Verdict::Refused(f) => f.number as u32,
-        Verdict::Accepted => show(limits, reading.edid.timings.detailed, numbers),
+        Err(f) => f.number as u32,
+        Ok(()) => show(limits, reading.edid.timings.detailed, numbers),
     }
 }

@@ -1,5 +1,5 @@
 -- Where the name stands: in the first slot with tag fc of a block that is accepted. So it begins at one of three places.
-use Rattle.std.specs.Prelude.{ℕ, zero, suc, ◌+◌, ◌≤◌, ◌<◌, ◌≡◌, Bool, List}
+use Rattle.std.specs.Prelude.{ℕ, zero, suc, ◌+◌, ◌≤◌, ◌<◌, ◌≡◌, Bool, List, Ok, Err}
 use Rattle.std.proofs.Math.Path.{refl}
 use Rattle.std.proofs.Common.{sym, ◌∙◌, inl, inr, arith, eqb-true}
 use Rattle.std.proofs.Math.Bool.{true, false}
@@ -7,8 +7,7 @@ use Rattle.std.proofs.lemmas.Bool.{false≢true, eqb-false}
 use Rattle.std.proofs.Math.Dec.{eqb}
 use Rattle.fixed.specs.Gather.{gather, when}
 use Rattle.steps.specs.declared.Span.{Span}
-use Rattle.standard_record.specs.declared.Verdict.{Verdict}
-use Rattle.standard_record.specs.declared.Verdict.TheVariants.{Accepted, Refused}
+use Rattle.standard_record.specs.Verdict.{Verdict}
 use Rattle.standard_timing.specs.Timing.{clock_in}
 use Rattle.standard_verdict.specs.Verdict.{refused_at}
 use Rattle.standard_slots.specs.Said.{text_in, said}
@@ -42,13 +41,13 @@ module _ (s : List ℕ) where
   abbrev FirstOf : Named → Type 0
   FirstOf = First (λ i. is_named (slot s i)) (λ i. text_in (slot s i) (start i)) 4
 
-  module _ (a : verdict_of s ≡ Accepted) where
+  module _ (a : verdict_of s ≡ Ok tt) where
     first_timing : is_named (slot s 0) ≡ false
     unfolding said
     first_timing = go (eqb (clock_in (slot s 0)) 0) refl (accepted_slot s (end_is_verdict s ∙ a) 0 (omega arith))
       where
-        go : (b : Bool) → eqb (clock_in (slot s 0)) 0 ≡ b → judge (said_in s 0) (start 0) ≡ Accepted → is_named (slot s 0) ≡ false
-        go true p j = let r : refused_at 3 54 ≡ Accepted = rw p at j in cc
+        go : (b : Bool) → eqb (clock_in (slot s 0)) 0 ≡ b → judge (said_in s 0) (start 0) ≡ Ok tt → is_named (slot s 0) ≡ false
+        go true p j = let r : refused_at 3 54 ≡ (Ok tt) = rw p at j in cc
         go false p j = rw p
 
     later : (i : ℕ) → is_named (slot s i) ≡ true → 1 ≤ i
@@ -60,8 +59,8 @@ module _ (s : List ℕ) where
     accepted (none before) = in_none a before
 
   by : (v : Verdict) → verdict_of s ≡ v → FirstOf (first (texts_of s 4)) → Stands s (unless_refused v (first (texts_of s 4)))
-  by Accepted a h = accepted a h
-  by (Refused f) e h = refused f e
+  by (Ok tt) a h = accepted a h
+  by (Err f) e h = refused f e
 
   pub stands : Stands s (name_of s)
   unfolding name_of

@@ -1,5 +1,5 @@
 -- The name is the text that the standard record lists first under Name, and lies within the block.
-use Rattle.std.specs.Prelude.{ℕ, zero, suc, ◌+◌, ◌≤◌, ◌≡◌, refl, List, [], ◌∷◌, ◌++◌, map, length}
+use Rattle.std.specs.Prelude.{ℕ, zero, suc, ◌+◌, ◌≤◌, ◌≡◌, refl, List, [], ◌∷◌, ◌++◌, map, length, Ok, Err}
 use Rattle.std.proofs.Common.{sym, ap, ◌∙◌, append-nil, append_assoc, arith}
 use Rattle.steps.specs.declared.Span.{Span}
 use Rattle.steps.specs.Spans.{Text}
@@ -8,8 +8,7 @@ use Rattle.standard_record.specs.Held.{held}
 use Rattle.standard_record.specs.Seen.{seen, shows}
 use Rattle.standard_record.specs.declared.Descriptor.{Descriptor}
 use Rattle.standard_record.specs.declared.Held.{Held}
-use Rattle.standard_record.specs.declared.Verdict.{Verdict}
-use Rattle.standard_record.specs.declared.Verdict.TheVariants.{Accepted, Refused}
+use Rattle.standard_record.specs.Verdict.{Verdict}
 use Rattle.standard_slots.specs.Said.{Said, refusal, nothing, timing, pairs, points, described, lists}
 use Rattle.standard_slots.specs.Spans.{Sound, Sounds}
 use Rattle.standard_reading.specs.Slots.{start, said_in, verdict_of}
@@ -39,7 +38,7 @@ names_of_slot k (pairs ps) = refl
 names_of_slot k (points ws) = refl
 names_of_slot k (described d) = append-nil (name_as d)
 
-module _ (s : List ℕ) (e : (standard_of s).end ≡ Accepted) where
+module _ (s : List ℕ) (e : (standard_of s).end ≡ Ok tt) where
   names_after : (n : ℕ) → n ≤ 4 → names_in (descriptors_of s n) ≡ texts_of s n
   names_after zero h = refl
   names_after (suc n) h =
@@ -52,9 +51,9 @@ unfolding name_of standard_of record_of seen blank
 listed_first s = go (verdict_of s) refl
   where
     go : (v : Verdict) → verdict_of s ≡ v → unless_refused v (first (texts_of s 4)) ≡ first (names_in (seen (beside v (record_of s)).edid).descriptors)
-    go Accepted e =
+    go (Ok tt) e =
         ap first (sym (names_after s (end_is_verdict s ∙ e) 4 (omega arith))) ∙ ap (λ x. first (names_in x.descriptors)) (sym (shows (plain s) (fits s)))
-    go (Refused f) e = refl
+    go (Err f) e = refl
 
 -- ---- it is a text within the block
 
@@ -79,7 +78,7 @@ sound_name s = go (verdict_of s) refl
         go (Descriptor.MakerDefined tag d) q later = later
 
     go : (v : Verdict) → verdict_of s ≡ v → SoundName s (unless_refused v (first (texts_of s 4)))
-    go Accepted e =
+    go (Ok tt) e =
         let a = end_is_verdict s ∙ e in
         rw (names_after s a 4 (omega arith)) at (first_sound s (accepted_has_128 s a) (descriptors_of s 4) (sounds s a))
-    go (Refused f) e = tt
+    go (Err f) e = tt

@@ -1,11 +1,10 @@
 -- The name to show: the first fc text of the panel's block, or, where it has none, that of the reference block.
-use Rattle.std.specs.Prelude.{ℕ, ◌+◌, ◌≤◌, ◌≡◌, Bool, ◌&&◌, List, [], ◌∷◌, eqb, length}
+use Rattle.std.specs.Prelude.{ℕ, ◌+◌, ◌≤◌, ◌≡◌, Bool, ◌&&◌, List, [], ◌∷◌, eqb, length, Ok, Err}
 use Rattle.std.specs.Borrow.{Bor}
 use Rattle.bits.specs.Bytes.{◌!◌, part}
 use Rattle.fixed.specs.Gather.{gather, when}
 use Rattle.steps.specs.declared.Span.{Span}
-use Rattle.standard_record.specs.declared.Verdict.{Verdict}
-use Rattle.standard_record.specs.declared.Verdict.TheVariants.{Accepted, Refused}
+use Rattle.standard_record.specs.Verdict.{Verdict}
 use Rattle.standard_timing.specs.Timing.{clock_in}
 use Rattle.standard_slots.specs.Said.{text_in}
 use Rattle.standard_reading.specs.Slots.{start, verdict_of}
@@ -34,8 +33,8 @@ first (t ∷ ts) = By t
 
 -- a block that the standard reading refuses counts as having no name
 abbrev pub unless_refused : Verdict → Named → Named
-unless_refused Accepted name = name
-unless_refused (Refused f) name = Not
+unless_refused (Ok tt) name = name
+unless_refused (Err f) name = Not
 
 unfoldable pub name_of : List ℕ → Named
 name_of s = unless_refused (verdict_of s) (first (texts_of s 4))

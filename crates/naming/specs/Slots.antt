@@ -1,5 +1,5 @@
 -- What the code looks at: a slot that is not refused says a name exactly where it is no timing and its tag is fc.
-use Rattle.std.specs.Prelude.{ℕ, ◌≡◌, Bool, ◌&&◌, ltb}
+use Rattle.std.specs.Prelude.{ℕ, ◌≡◌, Bool, ◌&&◌, ltb, Ok, None, Option, Some}
 use Rattle.std.proofs.Math.Path.{refl}
 use Rattle.std.proofs.Math.Bool.{true, false, cond}
 use mathlib.Core.List.{List, [], ◌∷◌, ◌++◌}
@@ -10,10 +10,9 @@ use Rattle.fixed.specs.Gather.{when}
 use Rattle.steps.specs.declared.Span.{Span}
 use Rattle.tags.specs.Tags.{tag_of}
 use Rattle.tags.specs.declared.Tag.{Tag}
+use Rattle.standard_record.specs.declared.DetailedTiming.{DetailedTiming}
 use Rattle.standard_record.specs.declared.Descriptor.{Descriptor}
-use Rattle.standard_record.specs.declared.Verdict.TheVariants.{Accepted}
 use Rattle.standard_timing.specs.Timing.{clock_in, timing_in}
-use Rattle.standard_timing.specs.declared.Timed.{Timed}
 use Rattle.standard_parts.specs.Descriptors.{closing_refusal, range_refusal}
 use Rattle.standard_parts.specs.Text.{all_spaces}
 use Rattle.standard_parts.specs.declared.Structure.{Structure}
@@ -88,14 +87,14 @@ module _ (σ : Structure) (t : List ℕ) (at : ℕ) where
   abbrev padding : ℕ
   padding = padding_refusal t (text_in t at).len
 
-  by_tag_lem : (tag : Tag) → judge (by_tag σ tag t at) at ≡ Accepted → names (by_tag σ tag t at) ≡ when (is_name tag) (text_in t at)
+  by_tag_lem : (tag : Tag) → judge (by_tag σ tag t at) at ≡ Ok tt → names (by_tag σ tag t at) ≡ when (is_name tag) (text_in t at)
   unfolding range_in
   by_tag_lem Tag.Dummy e = refl
   by_tag_lem Tag.Pairs e = none (closing_refusal (t ! 17) true) (pairs (pairs_in σ t)) refl
   by_tag_lem Tag.Points e = none (closing_refusal (t ! 15) (all_spaces (part t 16 2))) (points (points_in t)) refl
   by_tag_lem Tag.Name e = go (eqb padding 0) e
     where
-      go : (b : Bool) → let x = cond b (described (Descriptor.Name (text_in t at))) (refusal padding) in judge x at ≡ Accepted → names x ≡ text_in t at ∷ []
+      go : (b : Bool) → let x = cond b (described (Descriptor.Name (text_in t at))) (refusal padding) in judge x at ≡ Ok tt → names x ≡ text_in t at ∷ []
       go true e = refl
       go false e = cc
   by_tag_lem Tag.Range e = none (range_refusal (t ! 10) (t ! 11) (all_spaces (part t 12 6))) (described (range_in σ t at)) refl
@@ -103,13 +102,13 @@ module _ (σ : Structure) (t : List ℕ) (at : ℕ) where
   by_tag_lem Tag.Serial e = none padding (described (Descriptor.Serial (text_in t at))) refl
   by_tag_lem Tag.Raw e = either (λ d. name_as d ≡ []) (ltb (t ! 3) 0x10) refl refl
 
-  pub names_are : (i : ℕ) → judge (said σ i t at) at ≡ Accepted → names (said σ i t at) ≡ when (is_named t) (text_in t at)
+  pub names_are : (i : ℕ) → judge (said σ i t at) at ≡ Ok tt → names (said σ i t at) ≡ when (is_named t) (text_in t at)
   unfolding said
   names_are i e = go (eqb (clock_in t) 0) (eqb i 0) (timing_in t) e
     where
-      go : (z y : Bool) (x : Timed) → judge (cond z (cond y (refusal 3) (by_tag σ (tag_of (t ! 3)) t at)) (of_timed x)) at ≡ Accepted
+      go : (z y : Bool) (x : Option DetailedTiming) → judge (cond z (cond y (refusal 3) (by_tag σ (tag_of (t ! 3)) t at)) (of_timed x)) at ≡ Ok tt
           → names (cond z (cond y (refusal 3) (by_tag σ (tag_of (t ! 3)) t at)) (of_timed x)) ≡ when (z && eqb (t ! 3) 0xfc) (text_in t at)
       go true true x e = cc
       go true false x e = rw (← name_is_fc) (by_tag_lem (tag_of (t ! 3)) e)
-      go false y (Timed.Is d) e = refl
-      go false y Timed.Over e = refl
+      go false y (Some d) e = refl
+      go false y None e = refl

@@ -5,7 +5,7 @@ ghost use Rattle.std.specs.Prelude.{◌+◌, ◌≤◌, ◌≡◌, length};
 ghost use Rattle.naming.specs.Name.{name_of, shown_of, number_of, place_of, IsPart, IsShown};
 ghost use Rattle.naming.specs.Slots.{name_as, earlier};
 
-use standard_record::{Descriptor, Verdict};
+use standard_record::Descriptor;
 use standard_slots::Slot;
 use steps::Span;
 
@@ -41,7 +41,7 @@ fn earlier(name: Named, d: Descriptor) -> Named
 fn name_in(s: &[u8]) -> Named
     ensures { result ≡ name_of s.now }
 {
-    let Verdict::Accepted = standard_verdict::before_slots(s) else {
+    let Ok(()) = standard_verdict::before_slots(s) else {
         return Named::Not;
     };
     let structure = standard_parts::structure_of(s[19]);

@@ -1,5 +1,5 @@
 -- What the lines of a panel's text say, but for those of its slots: each part of the record, from the words of its line.
-use Rattle.std.specs.Prelude.{ℕ, Bool, true, false, cond, List, eqb}
+use Rattle.std.specs.Prelude.{ℕ, Bool, true, false, cond, List, eqb, None, Option, Some}
 use Rattle.page.specs.Words.{text}
 use Rattle.text_words.specs.Words.{◌word◌, last_word, same}
 use Rattle.text_kinds.specs.Kinds.{number_of, flag_of, letter_of}
@@ -12,7 +12,6 @@ use Rattle.standard_record.specs.declared.VideoInput.{VideoInput}
 use Rattle.standard_record.specs.declared.VideoInput.TheVariants.{Analog, Digital, Interface}
 use Rattle.standard_record.specs.declared.ImageSize.{ImageSize}
 use Rattle.standard_record.specs.declared.ImageSize.TheVariants as Size
-use Rattle.standard_record.specs.declared.Gamma.{Gamma}
 use Rattle.standard_record.specs.declared.DisplayType.{DisplayType}
 use Rattle.standard_record.specs.declared.DisplayType.TheVariants.{Monochrome, RGBColor, OtherColor, Undefined}
 use Rattle.standard_record.specs.declared.Kind.{Kind}
@@ -79,8 +78,8 @@ size_of l =
     (Size.Some (record { width = half_at l 1; height = half_at l 2 })))
 
 -- the word at k, in this line and in that of a white point
-unfoldable pub gamma_at : List ℕ → ℕ → Gamma
-gamma_at l k = cond (is_at l k (text "none")) Gamma.None (Gamma.Some (half_at l k))
+unfoldable pub gamma_at : List ℕ → ℕ → Option ℕ
+gamma_at l k = cond (is_at l k (text "none")) None (Some (half_at l k))
 
 -- by its number
 unfoldable pub type_of : ℕ → DisplayType

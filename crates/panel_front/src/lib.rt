@@ -6,7 +6,7 @@ ghost use Rattle.panel_front.specs.Front as front;
 
 use shared_record::{SupportedSync, Version};
 use standard_record::{
-    Chromaticities, Chromaticity, Depth, DisplayType, Features, Gamma, ImageSize, Kind, Maker,
+    Chromaticities, Chromaticity, Depth, DisplayType, Features, ImageSize, Kind, Maker,
     Product, Ratio, VideoInput, Week,
 };
 use timing::Size;
@@ -113,13 +113,13 @@ pub fn size(l: &[u8]) -> ImageSize
 }
 
 // The word at k.
-pub fn gamma(l: &[u8], k: usize) -> Gamma
+pub fn gamma(l: &[u8], k: usize) -> Option<u16>
     ensures { result ≡ front.gamma_at l.now k }
 {
     if text_kinds::is_word(l, k, b"none") {
-        Gamma::None
+        None
     } else {
-        Gamma::Some(text_kinds::number16(l, k))
+        Some(text_kinds::number16(l, k))
     }
 }
 

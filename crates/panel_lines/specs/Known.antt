@@ -1,9 +1,8 @@
 -- Worked lines: antt computes each definition to the text.
-use Rattle.std.specs.Prelude.{[], ◌∷◌, ◌≡◌, refl}
+use Rattle.std.specs.Prelude.{[], ◌∷◌, ◌≡◌, refl, Err}
 use Rattle.page.specs.Words.{text, decimal_in, field, field16, field8, hex_digit, hex_of2, flat, each}
 use Rattle.standard_record.specs.Filler.{blank}
 use Rattle.standard_record.specs.declared.Descriptor.TheVariants.{Serial, Text, Name, MakerDefined}
-use Rattle.standard_record.specs.declared.Verdict.TheVariants.{Refused}
 use Rattle.shared_lines.specs.Lines.{raw, raw_fields, refuse_line}
 use Rattle.standard_slot_lines.specs.Lines.{descriptor_fields}
 use Rattle.panel_lines.specs.Lines.{text_byte, quoted, quoted_fields, entry_fields, entry_line, judged_text, panel_text}
@@ -33,6 +32,6 @@ maker : entry_line (254 ∷ 34 ∷ []) (record { descriptor = MakerDefined 15 (r
 unfolding entry_line entry_fields descriptor_fields raw_fields raw flat each hex_of2 hex_digit field8 field16 decimal_in
 maker = refl
 
-refused : panel_text [] (record { edid = blank; end = Refused (record { number = 7; at = 0 }) }) ≡ text "refuse 7 0\n"
+refused : panel_text [] (record { edid = blank; end = Err (record { number = 7; at = 0 }) }) ≡ text "refuse 7 0\n"
 unfolding panel_text judged_text refuse_line flat field field8 decimal_in
 refused = refl

@@ -1,5 +1,5 @@
 -- The text of a panel, byte for byte: the lines of the standard listing but `accept`, and where it has a text's start and length, the text itself.
-use Rattle.std.specs.Prelude.{ℕ, min, cond, List, [], ◌∷◌, take, drop}
+use Rattle.std.specs.Prelude.{ℕ, min, cond, List, [], ◌∷◌, take, drop, Ok, Err}
 use Rattle.text_words.specs.Words.{is_plain}
 use Rattle.page.specs.Words.{text, space, newline, field16, hex_of2, flat, each}
 use Rattle.steps.specs.declared.Span.{Span}
@@ -8,8 +8,7 @@ use Rattle.standard_record.specs.declared.Descriptor.TheVariants.{Serial, Text, 
 use Rattle.standard_record.specs.declared.Held.{Held}
 use Rattle.standard_record.specs.declared.Descriptors.{Descriptors}
 use Rattle.standard_record.specs.declared.StandardRecord.{StandardRecord}
-use Rattle.standard_record.specs.declared.Verdict.{Verdict}
-use Rattle.standard_record.specs.declared.Verdict.TheVariants.{Accepted, Refused}
+use Rattle.standard_record.specs.Verdict.{Verdict}
 use Rattle.standard_record.specs.declared.StandardReading.{StandardReading}
 use Rattle.shared_lines.specs.Lines.{extensions_line, refuse_line}
 use Rattle.standard_slot_lines.specs.Lines.{descriptor_fields}
@@ -56,8 +55,8 @@ panel_lines s e = flat (main_lines e ∷ entry_lines s e.descriptors ∷ extensi
 
 -- a refusal is the listing's one line
 unfoldable pub judged_text : List ℕ → StandardRecord → Verdict → List ℕ
-judged_text s e Accepted = panel_lines s e
-judged_text s e (Refused f) = refuse_line f
+judged_text s e (Ok tt) = panel_lines s e
+judged_text s e (Err f) = refuse_line f
 
 -- of a reading of the input s
 unfoldable pub panel_text : List ℕ → StandardReading → List ℕ

@@ -1,5 +1,5 @@
 -- The longest text is below a page, so what is written of a page is the text, whole.
-use Rattle.std.specs.Prelude.{ℕ, ◌+◌, ◌≤◌, List, [], ◌∷◌, ◌≡◌, length, take, drop}
+use Rattle.std.specs.Prelude.{ℕ, ◌+◌, ◌≤◌, List, [], ◌∷◌, ◌≡◌, length, take, drop, Ok, Err}
 use Rattle.std.proofs.Common.{arith, length-append}
 use Rattle.page.specs.Page.{page, ◌▷◌}
 use Rattle.page.specs.Words.{text, field16, decimal_in, flat, each}
@@ -11,8 +11,7 @@ use Rattle.standard_record.specs.declared.Descriptor.TheVariants.{Serial, Text, 
 use Rattle.standard_record.specs.declared.Held.{Held}
 use Rattle.standard_record.specs.declared.Descriptors.{Descriptors}
 use Rattle.standard_record.specs.declared.StandardRecord.{StandardRecord}
-use Rattle.standard_record.specs.declared.Verdict.{Verdict}
-use Rattle.standard_record.specs.declared.Verdict.TheVariants.{Accepted, Refused}
+use Rattle.standard_record.specs.Verdict.{Verdict}
 use Rattle.standard_record.specs.declared.StandardReading.{StandardReading}
 use Rattle.shared_lines.specs.Short.{extensions_length, refuse_length}
 use Rattle.standard_slot_lines.specs.Lines.{descriptor_fields, held_line, descriptor_lines}
@@ -56,9 +55,9 @@ entry_lengths s l = first_length (entry_line s) 94 3 (entry_length s) l.len l.it
 
 judged_length : (s : List ℕ) (e : StandardRecord) (t : Verdict) → length (judged_text s e t) ≤ 2235
 unfolding judged_text panel_lines flat
-judged_length s e Accepted =
+judged_length s e (Ok tt) =
     simp length-append (omega (arith, main_length e, entry_lengths s e.descriptors, extensions_length e.extensions))
-judged_length s e (Refused f) = omega (arith, refuse_length f)
+judged_length s e (Err f) = omega (arith, refuse_length f)
 
 -- of every reading, whatever its record holds
 pub short : (s : List ℕ) (t : StandardReading) → length (panel_text s t) ≤ 2235

@@ -106,8 +106,8 @@ fn judged_text(out: &mut [u8; 4096], at: usize, s: &[u8], e: StandardRecord, end
     ensures { page out.new result ≡ page out.old at ▷ lines.judged_text s.now e end }
 {
     match end {
-        Verdict::Accepted => panel_lines(out, at, s, e),
-        Verdict::Refused(f) => shared_lines::refuse_line(out, at, f),
+        Ok(()) => panel_lines(out, at, s, e),
+        Err(f) => shared_lines::refuse_line(out, at, f),
     }
 }
 

@@ -1,11 +1,10 @@
 -- A panel's text read: the record that its lines give with the bytes that the record's spans point to, or refusal 19 with the number of a line.
-use Rattle.std.specs.Prelude.{ℕ, cond, List, ltb, length, replicate}
+use Rattle.std.specs.Prelude.{ℕ, cond, List, ltb, length, replicate, Ok, Err}
 use Rattle.standard_record.specs.Filler.{blank}
 use Rattle.standard_record.specs.declared.Display.{Display}
 use Rattle.standard_record.specs.declared.Color.{Color}
 use Rattle.standard_record.specs.declared.Timings.{Timings}
 use Rattle.standard_record.specs.declared.StandardRecord.{StandardRecord}
-use Rattle.standard_record.specs.declared.Verdict.TheVariants.{Accepted, Refused}
 use Rattle.text_lines.specs.Lines.{lines, counted, content, line_number, line_at}
 use Rattle.panel_front.specs.Front.{byte_at, product_of, version_of, input_of, size_of, gamma_at, features_of, chroma_of}
 use Rattle.panel_lists.specs.Lists.{points_of, pairs_of, timings_of, entries_of, bytes_of, established_of}
@@ -41,10 +40,10 @@ record_of s p = record {
 
 -- not understood, in the line with this number
 unfoldable pub lost : ℕ → PanelReading
-lost line = record { reading = record { edid = blank; end = Refused (record { number = 19; at = line }) }; bytes = replicate 39 0 }
+lost line = record { reading = record { edid = blank; end = Err (record { number = 19; at = line }) }; bytes = replicate 39 0 }
 
 unfoldable pub read_by : List ℕ → Laid → PanelReading
-read_by s (Has p) = record { reading = record { edid = record_of s p; end = Accepted }; bytes = bytes_of s p.entries p.extensions }
+read_by s (Has p) = record { reading = record { edid = record_of s p; end = Ok tt }; bytes = bytes_of s p.entries p.extensions }
 read_by s (Wrong k) = lost (line_number s k)
 
 -- a text above 65,536 bytes is lost in the line where that is passed

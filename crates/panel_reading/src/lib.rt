@@ -5,7 +5,7 @@ ghost use Rattle.std.specs.Prelude.{◌≡◌};
 ghost use Rattle.panel_reading.specs.Reading.{display_of, color_of, listed_of, record_of, lost, read_by, read_text};
 
 use panel_layout::{Laid, Places};
-use standard_record::{Color, Display, StandardReading, StandardRecord, Timings, Verdict};
+use standard_record::{Color, Display, StandardReading, StandardRecord, Timings};
 use steps::Refusal;
 
 // The record, and how its reading ended; three places of thirteen bytes, one for each descriptor.
@@ -65,7 +65,7 @@ fn record_by(s: &[u8], p: Places) -> StandardRecord
 fn lost(line: usize) -> PanelReading
     ensures { result ≡ lost line }
 {
-    let end = Verdict::Refused(Refusal {
+    let end = Err(Refusal {
         number: 19,
         at: line,
     });
@@ -82,7 +82,7 @@ fn read_by(s: &[u8], laid: Laid) -> PanelReading
     match laid {
         Laid::Has(p) => {
             let edid = record_by(s, p);
-            let end = Verdict::Accepted;
+            let end = Ok(());
             PanelReading {
                 reading: StandardReading { edid, end },
                 bytes: panel_lists::bytes(s, p.entries, p.extensions),

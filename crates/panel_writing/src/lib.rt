@@ -4,7 +4,7 @@
 ghost use Rattle.write_block.specs.Gives.{Written};
 ghost use Rattle.panel_writing.specs.Answer.{Answered};
 
-use standard_record::{StandardRecord, Verdict};
+use standard_record::StandardRecord;
 
 // The writer, over bytes whose number their type tells.
 fn write(r: StandardRecord, bytes: &[u8; 39], out: &mut [u8]) -> u8
@@ -26,7 +26,7 @@ pub fn block_of_text(text: &[u8], out: &mut [u8]) -> u8
     let reading = panel.reading;
     let end = reading.end;
     match end {
-        Verdict::Refused(_) => 19,
-        Verdict::Accepted => write(reading.edid, &bytes, out),
+        Err(_) => 19,
+        Ok(()) => write(reading.edid, &bytes, out),
     }
 }

@@ -4,7 +4,7 @@
 
 use pick_lines::Asked;
 use picking::Limits;
-use standard_record::{DetailedTimings, Verdict};
+use standard_record::DetailedTimings;
 use std::io;
 
 fn main(rt: HostRuntime) -> io::Result<()> {
@@ -18,8 +18,8 @@ fn check(out: &mut [u8; 4096], s: &[u8]) -> usize {
     let r = standard_reading::read_standard(&s[block..]);
     let end = r.end;
     match end {
-        Verdict::Refused(f) => shared_lines::refuse_line(out, 0, f),
-        Verdict::Accepted => flags(out, limits, r.edid.timings.detailed),
+        Err(f) => shared_lines::refuse_line(out, 0, f),
+        Ok(()) => flags(out, limits, r.edid.timings.detailed),
     }
 }
 

@@ -1,10 +1,10 @@
 -- What the program `pick` prints, byte for byte.
-use Rattle.std.specs.Prelude.{ℕ, List, [], ◌∷◌, drop}
+use Rattle.std.specs.Prelude.{ℕ, List, [], ◌∷◌, drop, Err, Ok}
 use Rattle.page.specs.Words.{text, newline, field, field8, flat}
 use Rattle.shared_lines.specs.Lines.{refuse_line}
 use Rattle.standard_slot_lines.specs.Lines.{detailed_line}
 use Rattle.standard_record.specs.declared.DetailedTimings.{DetailedTimings}
-use Rattle.standard_record.specs.declared.Verdict.{Verdict}
+use Rattle.standard_record.specs.Verdict.{Verdict}
 use Rattle.standard_record.specs.declared.StandardReading.{StandardReading}
 use Rattle.standard_reading.specs.Block.{standard_of}
 use Rattle.picking.specs.Best.{listed}
@@ -21,8 +21,8 @@ choice_lines l (Choice.Index i) = flat (text "pick" ∷ field i ∷ newline ∷ 
 choice_lines l (Choice.Refused n) = flat (text "refuse" ∷ field8 n ∷ newline ∷ [])
 
 abbrev pub judged_lines : Limits → DetailedTimings → Verdict → List ℕ
-judged_lines l ts Verdict.Accepted = choice_lines ts (choice l (listed ts))
-judged_lines l ts (Verdict.Refused f) = refuse_line f
+judged_lines l ts (Ok tt) = choice_lines ts (choice l (listed ts))
+judged_lines l ts (Err f) = refuse_line f
 
 unfoldable pub reading_lines : Limits → StandardReading → List ℕ
 reading_lines l t = judged_lines l t.edid.timings.detailed t.end

@@ -1,11 +1,11 @@
 -- What an answer of `pick` means: four cases, in the words of the order.
-use Rattle.std.specs.Prelude.{ℕ, ◌≡◌, List, [], ◌∷◌, drop}
+use Rattle.std.specs.Prelude.{ℕ, ◌≡◌, List, [], ◌∷◌, drop, Err, Ok}
 use Rattle.std.proofs.Math.Path.{refl}
 use Rattle.page.specs.Words.{text, newline, field, decimal_in, field8, flat}
 use Rattle.steps.specs.declared.Refusal.{Refusal}
 use Rattle.shared_lines.specs.Lines.{refuse_line}
 use Rattle.standard_slot_lines.specs.Lines.{detailed_line}
-use Rattle.standard_record.specs.declared.Verdict.{Verdict}
+use Rattle.standard_record.specs.Verdict.{Verdict}
 use Rattle.standard_record.specs.declared.DetailedTimings.{DetailedTimings}
 use Rattle.standard_reading.specs.Block.{standard_of}
 use Rattle.picking.specs.Best.{Best, NoneQualifies, Chooses, listed}
@@ -19,9 +19,9 @@ use Rattle.pick_lines.specs.declared.Asked.{Asked}
 
 -- what is printed of a block's timings and its verdict; the entry at an index is a timing with its slot
 pub data Prints (l : Limits) (d : DetailedTimings) (v : Verdict) : List ℕ → Type 0 where
-  unread : (f : Refusal) → v ≡ Verdict.Refused f → Prints l d v (refuse_line f)
-  none : v ≡ Verdict.Accepted → NoneQualifies l (listed d) → Prints l d v (text "refuse 14\n")
-  best : (i : ℕ) (b : Best l (listed d) i) → v ≡ Verdict.Accepted → (entry d i).timing ≡ b.timing
+  unread : (f : Refusal) → v ≡ Err f → Prints l d v (refuse_line f)
+  none : v ≡ Ok tt → NoneQualifies l (listed d) → Prints l d v (text "refuse 14\n")
+  best : (i : ℕ) (b : Best l (listed d) i) → v ≡ Ok tt → (entry d i).timing ≡ b.timing
       → Prints l d v (flat (text "pick" ∷ field i ∷ newline ∷ detailed_line (entry d i) ∷ []))
 
 -- of all that is asked
@@ -31,14 +31,14 @@ pub data Says (s : List ℕ) : List ℕ → Type 0 where
       → (let r = standard_of (drop block s) in Prints l r.edid.timings.detailed r.end a) → Says s a
 
 module _ (l : Limits) (d : DetailedTimings) where
-  by_choice : (c : Choice) → Chooses l (listed d) c → Prints l d Verdict.Accepted (choice_lines d c)
+  by_choice : (c : Choice) → Chooses l (listed d) c → Prints l d (Ok tt) (choice_lines d c)
   unfolding choice_lines flat field8 decimal_in
   by_choice (Choice.Index i) b = best i b refl (its_timing l d i b)
   by_choice (Choice.Refused n) c = rw c.0 (none refl c.1)
 
   by_verdict : (v : Verdict) → Prints l d v (judged_lines l d v)
-  by_verdict Verdict.Accepted = by_choice (choice l (listed d)) (chooses l (listed d))
-  by_verdict (Verdict.Refused f) = unread f refl
+  by_verdict (Ok tt) = by_choice (choice l (listed d)) (chooses l (listed d))
+  by_verdict (Err f) = unread f refl
 
 pub says : (s : List ℕ) → Says s (answer s)
 unfolding answer_to reading_lines

@@ -1,5 +1,5 @@
 -- Every answer of `pick` is shorter than a page.
-use Rattle.std.specs.Prelude.{ℕ, ◌≤◌, ◌≡◌, List, length, take, drop}
+use Rattle.std.specs.Prelude.{ℕ, ◌≤◌, ◌≡◌, List, length, take, drop, Err, Ok}
 use Rattle.std.proofs.Common.{arith, length-append}
 use Rattle.page.specs.Page.{page, ◌▷◌}
 use Rattle.page.specs.Words.{flat}
@@ -8,7 +8,7 @@ use Rattle.page.specs.Meaning.{whole, only}
 use Rattle.shared_lines.specs.Short.{refuse_length}
 use Rattle.standard_slot_lines.specs.Short.{detailed_length}
 use Rattle.standard_record.specs.declared.DetailedTimings.{DetailedTimings}
-use Rattle.standard_record.specs.declared.Verdict.{Verdict}
+use Rattle.standard_record.specs.Verdict.{Verdict}
 use Rattle.standard_reading.specs.Block.{standard_of}
 use Rattle.picking.specs.Best.{listed}
 use Rattle.picking.specs.Score.{choice}
@@ -25,8 +25,8 @@ choice_length l (Choice.Index i) = simp length-append (omega (arith, field_lengt
 choice_length l (Choice.Refused n) = simp length-append (omega (arith, field8_length n))
 
 judged_length : (l : Limits) (ts : DetailedTimings) (v : Verdict) → length (judged_lines l ts v) ≤ 201
-judged_length l ts Verdict.Accepted = choice_length ts (choice l (listed ts))
-judged_length l ts (Verdict.Refused f) = omega (arith, refuse_length f)
+judged_length l ts (Ok tt) = choice_length ts (choice l (listed ts))
+judged_length l ts (Err f) = omega (arith, refuse_length f)
 
 answer_length : (s : List ℕ) (a : Asked) → length (answer_to s a) ≤ 201
 unfolding answer_to reading_lines

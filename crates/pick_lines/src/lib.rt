@@ -9,7 +9,7 @@ ghost use Rattle.pick_lines.specs.Asked.{is_digit, number_from, asked_in, Bounde
 ghost use Rattle.pick_lines.specs.Lines as lines;
 
 use picking::{Choice, Limits};
-use standard_record::{DetailedTimings, StandardReading, Verdict};
+use standard_record::{DetailedTimings, StandardReading};
 use timing::{Lines, Pixels};
 
 // ---- what is asked
@@ -117,8 +117,8 @@ fn reading_lines(out: &mut [u8; 4096], limits: Limits, t: StandardReading) -> us
 {
     let end = t.end;
     match end {
-        Verdict::Refused(f) => shared_lines::refuse_line(out, 0, f),
-        Verdict::Accepted => choice_lines(out, limits, t.edid.timings.detailed),
+        Err(f) => shared_lines::refuse_line(out, 0, f),
+        Ok(()) => choice_lines(out, limits, t.edid.timings.detailed),
     }
 }
 

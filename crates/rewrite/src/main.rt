@@ -2,7 +2,7 @@
 // writer has it. A block that the reading refuses is answered by the line `refuse`, number and place.
 #![tactic(auto)]
 
-use standard_record::{StandardRecord, Verdict};
+use standard_record::StandardRecord;
 use std::io;
 use steps::Refusal;
 
@@ -14,8 +14,8 @@ fn rewrite(out: &mut [u8; 4096], s: &[u8]) -> usize {
     let r = standard_reading::read_standard(s);
     let end = r.end;
     match end {
-        Verdict::Refused(f) => shared_lines::refuse_line(out, 0, f),
-        Verdict::Accepted => write(out, s, r.edid),
+        Err(f) => shared_lines::refuse_line(out, 0, f),
+        Ok(()) => write(out, s, r.edid),
     }
 }
 

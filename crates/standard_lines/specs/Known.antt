@@ -1,5 +1,5 @@
 -- Worked lines: antt computes each definition to the text.
-use Rattle.std.specs.Prelude.{true, false, [], ◌≡◌, refl}
+use Rattle.std.specs.Prelude.{true, false, [], ◌≡◌, refl, Err, None, Some}
 use Rattle.page.specs.Words.{text, decimal_in, field, field32, field16, field8, flag, flat}
 use Rattle.standard_record.specs.Filler.{blank}
 use Rattle.standard_record.specs.declared.Week.{Week}
@@ -8,12 +8,10 @@ use Rattle.standard_record.specs.declared.Product.{Product}
 use Rattle.standard_record.specs.declared.Depth.TheVariants as Depth
 use Rattle.standard_record.specs.declared.VideoInput.TheVariants.{Analog, Interface}
 use Rattle.standard_record.specs.declared.ImageSize.TheVariants as Size
-use Rattle.standard_record.specs.declared.Gamma.TheVariants as Gamma
 use Rattle.standard_record.specs.declared.DisplayType.TheVariants.{OtherColor}
 use Rattle.standard_record.specs.declared.Kind.{Kind}
 use Rattle.standard_record.specs.declared.Kind.TheVariants.{Typed, Encodings}
 use Rattle.standard_record.specs.declared.Features.{Features}
-use Rattle.standard_record.specs.declared.Verdict.TheVariants.{Refused}
 use Rattle.shared_lines.specs.Lines.{product_numbers, input_flags, dpms_line, refuse_line}
 use Rattle.standard_lines.specs.Lines.{letter, numbers, product_line, depth, input_line, size_line, gamma, gamma_line, encodings, features_by, features_line, white_line, standard_line, judged_lines, listing_of}
 
@@ -56,11 +54,11 @@ features :
 unfolding features_line features_by encodings dpms_line flat flag field8 decimal_in
 features = (refl, refl)
 
-gamma_is : gamma_line (Gamma.Some 200) ≡ text "gamma 200\n"
+gamma_is : gamma_line (Some 200) ≡ text "gamma 200\n"
 unfolding gamma_line gamma flat field16 decimal_in
 gamma_is = refl
 
-white : white_line (record { point = record { index = 1; place = record { x = 320; y = 337 }; gamma = Gamma.None }; slot = 3 }) ≡ text "white 1 320 337 none 3\n"
+white : white_line (record { point = record { index = 1; place = record { x = 320; y = 337 }; gamma = None }; slot = 3 }) ≡ text "white 1 320 337 none 3\n"
 unfolding white_line gamma flat field8 field16 decimal_in
 white = refl
 
@@ -68,6 +66,6 @@ standard : standard_line (record { pair = record { width = 1280; ratio = record 
 unfolding standard_line flat field16 decimal_in
 standard = refl
 
-refused : listing_of [] (record { edid = blank; end = Refused (record { number = 7; at = 0 }) }) ≡ text "refuse 7 0\n"
+refused : listing_of [] (record { edid = blank; end = Err (record { number = 7; at = 0 }) }) ≡ text "refuse 7 0\n"
 unfolding listing_of judged_lines refuse_line flat field field8 decimal_in
 refused = refl

@@ -1,5 +1,5 @@
 -- The listing of the standard reading: what each line is, byte for byte, and their order.
-use Rattle.std.specs.Prelude.{ℕ, min, Bool, true, false, cond, List, [], ◌∷◌, ◌++◌, eqb, take}
+use Rattle.std.specs.Prelude.{ℕ, min, Bool, true, false, cond, List, [], ◌∷◌, ◌++◌, eqb, take, Ok, Err, None, Option, Some}
 use Rattle.page.specs.Words.{text, space, newline, field32, field16, field8, flag, flat, each}
 use Rattle.shared_lines.specs.Lines.{product_numbers, version_line, input_flags, digital_line, dpms_line, established_line, extensions_line, refuse_line}
 use Rattle.standard_slot_lines.specs.Lines.{detailed_lines, descriptor_lines}
@@ -11,7 +11,6 @@ use Rattle.standard_record.specs.declared.VideoInput.{VideoInput}
 use Rattle.standard_record.specs.declared.VideoInput.TheVariants.{Analog, Digital, Interface}
 use Rattle.standard_record.specs.declared.ImageSize.{ImageSize}
 use Rattle.standard_record.specs.declared.ImageSize.TheVariants as Size
-use Rattle.standard_record.specs.declared.Gamma.{Gamma}
 use Rattle.standard_record.specs.declared.DisplayType.{DisplayType}
 use Rattle.standard_record.specs.declared.DisplayType.TheVariants.{Monochrome, RGBColor, OtherColor, Undefined}
 use Rattle.standard_record.specs.declared.Kind.{Kind}
@@ -24,8 +23,7 @@ use Rattle.standard_record.specs.declared.WhitePoints.{WhitePoints}
 use Rattle.standard_record.specs.declared.HeldPair.{HeldPair}
 use Rattle.standard_record.specs.declared.StandardTimings.{StandardTimings}
 use Rattle.standard_record.specs.declared.StandardRecord.{StandardRecord}
-use Rattle.standard_record.specs.declared.Verdict.{Verdict}
-use Rattle.standard_record.specs.declared.Verdict.TheVariants.{Accepted, Refused}
+use Rattle.standard_record.specs.Verdict.{Verdict}
 use Rattle.standard_record.specs.declared.StandardReading.{StandardReading}
 
 -- the letter itself, or 0
@@ -61,11 +59,11 @@ size_line Size.None = text "size none\n"
 size_line (Size.Some s) = flat (text "size" ∷ field16 s.width ∷ field16 s.height ∷ newline ∷ [])
 size_line (Size.Ratio r) = flat (text "size ratio" ∷ field16 r.width ∷ field16 r.height ∷ newline ∷ [])
 
-unfoldable pub gamma : Gamma → List ℕ
-gamma Gamma.None = text " none"
-gamma (Gamma.Some g) = field16 g
+unfoldable pub gamma : Option ℕ → List ℕ
+gamma None = text " none"
+gamma (Some g) = field16 g
 
-unfoldable pub gamma_line : Gamma → List ℕ
+unfoldable pub gamma_line : Option ℕ → List ℕ
 gamma_line t = flat (text "gamma" ∷ gamma t ∷ newline ∷ [])
 
 -- the stored code
@@ -142,8 +140,8 @@ record_lines s e = flat (
     extensions_line e.extensions ∷ [])
 
 unfoldable pub judged_lines : List ℕ → StandardRecord → Verdict → List ℕ
-judged_lines s e Accepted = flat (text "accept\n" ∷ record_lines s e ∷ [])
-judged_lines s e (Refused f) = refuse_line f
+judged_lines s e (Ok tt) = flat (text "accept\n" ∷ record_lines s e ∷ [])
+judged_lines s e (Err f) = refuse_line f
 
 unfoldable pub listing_of : List ℕ → StandardReading → List ℕ
 listing_of s r = judged_lines s r.edid r.end

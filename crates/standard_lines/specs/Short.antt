@@ -1,5 +1,5 @@
 -- The longest listing is below a page, so what is written of a page is the listing, whole.
-use Rattle.std.specs.Prelude.{ℕ, ◌≤◌, Bool, true, false, List, ◌≡◌, eqb, length, take, drop}
+use Rattle.std.specs.Prelude.{ℕ, ◌≤◌, Bool, true, false, List, ◌≡◌, eqb, length, take, drop, Ok, Err, None, Option, Some}
 use Rattle.std.proofs.Common.{arith, length-append}
 use Rattle.page.specs.Page.{page, ◌▷◌}
 use Rattle.page.specs.Words.{flat}
@@ -17,7 +17,6 @@ use Rattle.standard_record.specs.declared.Kind.TheVariants.{Typed, Encodings}
 use Rattle.standard_record.specs.declared.Features.{Features}
 use Rattle.standard_record.specs.declared.ImageSize.{ImageSize}
 use Rattle.standard_record.specs.declared.ImageSize.TheVariants as Size
-use Rattle.standard_record.specs.declared.Gamma.{Gamma}
 use Rattle.standard_record.specs.declared.Display.{Display}
 use Rattle.standard_record.specs.declared.Chromaticities.{Chromaticities}
 use Rattle.standard_record.specs.declared.HeldPoint.{HeldPoint}
@@ -25,8 +24,7 @@ use Rattle.standard_record.specs.declared.WhitePoints.{WhitePoints}
 use Rattle.standard_record.specs.declared.HeldPair.{HeldPair}
 use Rattle.standard_record.specs.declared.StandardTimings.{StandardTimings}
 use Rattle.standard_record.specs.declared.StandardRecord.{StandardRecord}
-use Rattle.standard_record.specs.declared.Verdict.{Verdict}
-use Rattle.standard_record.specs.declared.Verdict.TheVariants.{Accepted, Refused}
+use Rattle.standard_record.specs.Verdict.{Verdict}
 use Rattle.standard_record.specs.declared.StandardReading.{StandardReading}
 use Rattle.standard_slot_lines.specs.Short.{detailed_lengths, descriptor_lengths}
 use Rattle.standard_lines.specs.Main.{main_lines}
@@ -74,10 +72,10 @@ size_length Size.None = omega arith
 size_length (Size.Some s) = simp length-append (omega (arith, field16_length s.width, field16_length s.height))
 size_length (Size.Ratio r) = simp length-append (omega (arith, field16_length r.width, field16_length r.height))
 
-gamma_length : (t : Gamma) → length (gamma t) ≤ 6
+gamma_length : (t : Option ℕ) → length (gamma t) ≤ 6
 unfolding gamma
-gamma_length Gamma.None = omega arith
-gamma_length (Gamma.Some g) = field16_length g
+gamma_length None = omega arith
+gamma_length (Some g) = field16_length g
 
 encodings_length : (ycrcb444 ycrcb422 : Bool) → length (encodings ycrcb444 ycrcb422) ≤ 3
 unfolding encodings
@@ -196,8 +194,8 @@ record_length s e =
 
 judged_length : (s : List ℕ) (e : StandardRecord) (t : Verdict) → length (judged_lines s e t) ≤ 2242
 unfolding judged_lines flat
-judged_length s e Accepted = simp length-append (omega (arith, record_length s e))
-judged_length s e (Refused f) = omega (arith, refuse_length f)
+judged_length s e (Ok tt) = simp length-append (omega (arith, record_length s e))
+judged_length s e (Err f) = omega (arith, refuse_length f)
 
 -- of every reading, whatever its record holds
 pub short : (s : List ℕ) (t : StandardReading) → length (listing_of s t) ≤ 2242

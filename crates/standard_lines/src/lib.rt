@@ -7,7 +7,7 @@ ghost use Rattle.standard_lines.specs.Lines as lines;
 ghost use Rattle.standard_lines.specs.Main.{main_lines};
 
 use standard_record::{
-    Chromaticities, Depth, Display, DisplayType, Features, Gamma, HeldPair, HeldPoint, ImageSize,
+    Chromaticities, Depth, Display, DisplayType, Features, HeldPair, HeldPoint, ImageSize,
     Kind, Product, StandardReading, StandardRecord, StandardTimings, Verdict, VideoInput, Week,
     WhitePoints,
 };
@@ -110,16 +110,16 @@ fn size_line(out: &mut [u8; 4096], at: usize, t: ImageSize) -> usize
     }
 }
 
-fn gamma(out: &mut [u8; 4096], at: usize, t: Gamma) -> usize
+fn gamma(out: &mut [u8; 4096], at: usize, t: Option<u16>) -> usize
     ensures { page out.new result ≡ page out.old at ▷ lines.gamma t }
 {
     match t {
-        Gamma::None => page::bytes(out, at, b" none"),
-        Gamma::Some(g) => page::field16(out, at, g),
+        None => page::bytes(out, at, b" none"),
+        Some(g) => page::field16(out, at, g),
     }
 }
 
-fn gamma_line(out: &mut [u8; 4096], at: usize, t: Gamma) -> usize
+fn gamma_line(out: &mut [u8; 4096], at: usize, t: Option<u16>) -> usize
     ensures { page out.new result ≡ page out.old at ▷ lines.gamma_line t }
 {
     let mut n = page::bytes(out, at, b"gamma");
@@ -310,11 +310,11 @@ fn judged_lines(out: &mut [u8; 4096], at: usize, s: &[u8], e: StandardRecord, en
     ensures { page out.new result ≡ page out.old at ▷ lines.judged_lines s.now e end }
 {
     match end {
-        Verdict::Accepted => {
+        Ok(()) => {
             let n = page::bytes(out, at, b"accept\n");
             record_lines(out, n, s, e)
         }
-        Verdict::Refused(f) => shared_lines::refuse_line(out, at, f),
+        Err(f) => shared_lines::refuse_line(out, at, f),
     }
 }
 

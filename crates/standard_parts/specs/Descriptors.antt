@@ -1,5 +1,5 @@
 -- What the bytes of a descriptor slot say. They are named by their place in the slot's 18.
-use Rattle.std.specs.Prelude.{ℕ, ◌+◌, ◌*◌, Bool, cond, eqb, ltb}
+use Rattle.std.specs.Prelude.{ℕ, ◌+◌, ◌*◌, Bool, cond, eqb, ltb, Result, Ok, Err}
 use Rattle.bits.specs.Fields.{digits}
 use Rattle.steps.specs.declared.Span.{Span}
 use Rattle.standard_record.specs.declared.Limits.{Limits}
@@ -37,12 +37,12 @@ unfoldable pub secondary_of : ℕ → ℕ → ℕ → ℕ → ℕ → ℕ → �
 secondary_of kind b12 b13 b14 b15 b16 b17 rest =
     cond (eqb kind 0) None (cond (eqb kind 2) (GTF (b12 * 2000) b13 (b14 + 256 * b15) b16 b17) (Other kind rest))
 
--- ---- the number of the refusal that closing bytes give, 0 for none
+-- ---- the number of the refusal that closing bytes give
 
 -- 0x0a, then spaces
-unfoldable pub closing_refusal : ℕ → Bool → ℕ
-closing_refusal b spaces = cond (eqb b 0x0a) (cond spaces 0 5) 4
+unfoldable pub closing_refusal : ℕ → Bool → Result Unit ℕ
+closing_refusal b spaces = cond (eqb b 0x0a) (cond spaces (Ok tt) (Err 5)) (Err 4)
 
 -- of range limits, by their kind: 0 has nothing behind byte 11, 2 has a reserved byte there
-unfoldable pub range_refusal : ℕ → ℕ → Bool → ℕ
-range_refusal kind b11 spaces = cond (eqb kind 0) (closing_refusal b11 spaces) (cond (eqb kind 2) (cond (eqb b11 0) 0 4) 0)
+unfoldable pub range_refusal : ℕ → ℕ → Bool → Result Unit ℕ
+range_refusal kind b11 spaces = cond (eqb kind 0) (closing_refusal b11 spaces) (cond (eqb kind 2) (cond (eqb b11 0) (Ok tt) (Err 4)) (Ok tt))

@@ -1,5 +1,5 @@
 -- The first fields of a block: maker, week, video input, image size, gamma, features. Bytes are named by their place in the block, σ is the structure.
-use Rattle.std.specs.Prelude.{ℕ, ◌+◌, ◌*◌, Bool, true, false, ◌&&◌, cond, eqb, leb}
+use Rattle.std.specs.Prelude.{ℕ, ◌+◌, ◌*◌, Bool, true, false, ◌&&◌, cond, eqb, leb, None, Option, Some}
 use Rattle.bits.specs.Fields.{digits, bit, by_code}
 use Rattle.standard_record.specs.declared.Maker.{Maker}
 use Rattle.standard_record.specs.declared.Week.{Week}
@@ -9,7 +9,6 @@ use Rattle.standard_record.specs.declared.VideoInput.{VideoInput}
 use Rattle.standard_record.specs.declared.VideoInput.TheVariants.{Analog, Digital, Interface}
 use Rattle.standard_record.specs.declared.ImageSize.{ImageSize}
 use Rattle.standard_record.specs.declared.ImageSize.TheVariants as Image
-use Rattle.standard_record.specs.declared.Gamma.{Gamma}
 use Rattle.standard_record.specs.declared.DisplayType.{DisplayType}
 use Rattle.standard_record.specs.declared.DisplayType.TheVariants.{Monochrome, RGBColor, OtherColor, Undefined}
 use Rattle.standard_record.specs.declared.Kind.{Kind}
@@ -57,8 +56,8 @@ image_of σ b21 b22 =
     cond (eqb b21 0) (cond (eqb b22 0) Image.None (ratio_alone σ 100 (b22 + 99)))
     (cond (eqb b22 0) (ratio_alone σ (b21 + 99) 100) (Image.Some (record { width = b21 * 10; height = b22 * 10 })))
 
-unfoldable pub gamma_of : ℕ → Gamma
-gamma_of b = cond (eqb b 0xff) Gamma.None (Gamma.Some (b + 100))
+unfoldable pub gamma_of : ℕ → Option ℕ
+gamma_of b = cond (eqb b 0xff) None (Some (b + 100))
 
 abbrev pub type_of : ℕ → DisplayType
 type_of code = by_code code Monochrome RGBColor OtherColor Undefined

@@ -13,7 +13,7 @@ ghost use Rattle.standard_parts.specs.Text.{text_length, spaces_or, all_spaces, 
 
 use shared_record::{EstablishedTimings, SupportedSync};
 use standard_record::{
-    Chromaticity, Depth, DisplayType, Features, Gamma, ImageSize, Kind, Limits, Maker, Ratio,
+    Chromaticity, Depth, DisplayType, Features, ImageSize, Kind, Limits, Maker, Ratio,
     SecondaryTiming, StandardTiming, VideoInput, Week, WhitePoint,
 };
 use steps::Span;
@@ -25,20 +25,6 @@ pub enum Structure {
     Below3,
     From3,
     From4,
-}
-
-// What two bytes of a standard timing say.
-#[derive(Clone, Copy)]
-pub enum Pair {
-    Skipped,
-    Listed(StandardTiming),
-}
-
-// What five bytes of an fb slot say.
-#[derive(Clone, Copy)]
-pub enum Point {
-    Skipped,
-    Listed(WhitePoint),
 }
 
 #[tactic(auto, using(std::proofs::lemmas::Bool::Decides::nat_tests))]
@@ -58,8 +44,7 @@ pub fn since_4(structure: Structure) -> bool
     ensures { result ≡ since4 structure }
 {
     match structure {
-        Structure::Below3 => false,
-        Structure::From3 => false,
+        Structure::Below3 | Structure::From3 => false,
         Structure::From4 => true,
     }
 }
@@ -124,6 +109,7 @@ fn digital_of(structure: Structure, b20: u8) -> VideoInput
     }
 }
 
+#[tactic(auto, unfolding(crate::specs::Head::input_of))]
 pub fn input_of(structure: Structure, b20: u8) -> VideoInput
     ensures { result ≡ input_of structure b20 }
 {
@@ -153,6 +139,7 @@ fn ratio_alone(structure: Structure, width: u16, height: u16) -> ImageSize
     }
 }
 
+#[tactic(auto, unfolding(crate::specs::Head::image_of))]
 pub fn image_of(structure: Structure, b21: u8, b22: u8) -> ImageSize
     ensures { result ≡ image_of structure b21 b22 }
 {
@@ -171,13 +158,14 @@ pub fn image_of(structure: Structure, b21: u8, b22: u8) -> ImageSize
     })
 }
 
-pub fn gamma_of(b: u8) -> Gamma
+#[tactic(auto, unfolding(crate::specs::Head::gamma_of))]
+pub fn gamma_of(b: u8) -> Option<u16>
     ensures { result ≡ gamma_of b }
 {
     if b == 0xff {
-        Gamma::None
+        None
     } else {
-        Gamma::Some(b as u16 + 100)
+        Some(b as u16 + 100)
     }
 }
 
@@ -215,6 +203,7 @@ fn kind_of(encoded: bool, code: u8) -> Kind
     }
 }
 
+#[tactic(auto, unfolding(crate::specs::Head::features_of))]
 pub fn features_of(input: VideoInput, b24: u8) -> Features
     ensures { result ≡ features_of input b24 }
 {
@@ -241,13 +230,15 @@ pub fn chromaticity_of(low: u8, x: u8, y: u8) -> Chromaticity
     }
 }
 
-pub fn point_of(index: u8, low: u8, x: u8, y: u8, gamma: u8) -> Point
+// None where it is not used.
+#[tactic(auto, unfolding(crate::specs::Color::point_of))]
+pub fn point_of(index: u8, low: u8, x: u8, y: u8, gamma: u8) -> Option<WhitePoint>
     ensures { result ≡ point_of index low x y gamma }
 {
     if index == 0 {
-        Point::Skipped
+        None
     } else {
-        Point::Listed(WhitePoint {
+        Some(WhitePoint {
             index,
             place: chromaticity_of(low, x, y),
             gamma: gamma_of(gamma),
@@ -257,26 +248,12 @@ pub fn point_of(index: u8, low: u8, x: u8, y: u8, gamma: u8) -> Point
 
 // ---- timings
 
-// Each flag is tested by a shift and a mask; those that are set are listed by their numbers.
+// The flags that are set.
+#[tactic(auto, unfolding(crate::specs::Timings::flags_of))]
 pub fn established_of(b35: u8, b36: u8, b37: u8) -> EstablishedTimings
     ensures { result ≡ established_timings (flags_of b35 b36 b37) }
 {
-    let v = bits::word(b35, b36);
-    let mut items = [0u8; 17];
-    let mut len = 0;
-    let mut k: u8 = 0;
-    while k < 16 {
-        if bits::is_set16(v, k) {
-            items[len] = k;
-            len += 1;
-        }
-        k += 1;
-    }
-    if bits::is_set(b37, 7) {
-        items[len] = 16;
-        len += 1;
-    }
-    EstablishedTimings { items, len }
+    shared_record::established_of(bits::word(b35, b36), b37)
 }
 
 fn first_ratio(structure: Structure) -> Ratio
@@ -287,11 +264,7 @@ fn first_ratio(structure: Structure) -> Ratio
             width: 1,
             height: 1,
         },
-        Structure::From3 => Ratio {
-            width: 16,
-            height: 10,
-        },
-        Structure::From4 => Ratio {
+        Structure::From3 | Structure::From4 => Ratio {
             width: 16,
             height: 10,
         },
@@ -318,14 +291,15 @@ fn ratio_of(structure: Structure, code: u8) -> Ratio
     }
 }
 
+// None where the two bytes say that there is no timing.
 #[tactic(auto, unfolding(crate::specs::Timings::pair_of))]
-pub fn pair_of(structure: Structure, low: u8, high: u8) -> Pair
+pub fn pair_of(structure: Structure, low: u8, high: u8) -> Option<StandardTiming>
     ensures { result ≡ pair_of structure low high }
 {
     if low == 1 && high == 1 {
-        Pair::Skipped
+        None
     } else {
-        Pair::Listed(StandardTiming {
+        Some(StandardTiming {
             width: (low as u16 + 31) * 8,
             ratio: ratio_of(structure, bits::digits(high, 6, 2)),
             rate: bits::digits(high, 0, 6) as u16 + 60,
@@ -353,6 +327,7 @@ pub fn offsets_of(structure: Structure, b4: u8) -> u8
     if since_4(structure) { b4 } else { 0 }
 }
 
+#[tactic(auto, unfolding(crate::specs::Descriptors::limits_of))]
 pub fn limits_of(offsets: u8, b5: u8, b6: u8, b7: u8, b8: u8, b9: u8) -> Limits
     ensures { result ≡ limits_of offsets b5 b6 b7 b8 b9 }
 {
@@ -393,57 +368,44 @@ pub fn secondary_of(
     }
 }
 
-pub fn closing_refusal(b: u8, spaces: bool) -> u8
+// Err: the number of the refusal that the closing bytes give.
+#[tactic(auto, unfolding(crate::specs::Descriptors::closing_refusal))]
+pub fn closing_refusal(b: u8, spaces: bool) -> Result<(), u8>
     ensures { result ≡ closing_refusal b spaces }
 {
-    if b == 0x0a {
-        if spaces { 0 } else { 5 }
-    } else {
-        4
+    match (b, spaces) {
+        (0x0a, true) => Ok(()),
+        (0x0a, false) => Err(5),
+        _ => Err(4),
     }
 }
 
+// The same, of range limits.
 #[tactic(auto, unfolding(crate::specs::Descriptors::range_refusal))]
-pub fn range_refusal(kind: u8, b11: u8, spaces: bool) -> u8
+pub fn range_refusal(kind: u8, b11: u8, spaces: bool) -> Result<(), u8>
     ensures { result ≡ range_refusal kind b11 spaces }
 {
     match kind {
         0 => closing_refusal(b11, spaces),
-        2 => { if b11 == 0 { 0 } else { 4 } }
-        _ => 0,
+        2 if b11 != 0 => Err(4),
+        _ => Ok(()),
     }
 }
 
 // ---- texts
 
-// The loop yields the place of the first 0x0a, or the end.
+// The place of the first 0x0a, or the end.
 pub fn text_length(s: &[u8]) -> usize
     ensures { result ≡ text_length s.now }
 {
-    let mut i = 0;
-    loop {
-        if i >= s.len() {
-            break i;
-        }
-        if s[i] == 0x0a {
-            break i;
-        }
-        i += 1;
-    }
+    s.iter().position(|b| *b == 0x0a).unwrap_or(s.len())
 }
 
 // Each byte is 0x20 or `other`.
 fn spaces_or(other: u8, s: &[u8]) -> bool
     ensures { result ≡ spaces_or other s.now }
 {
-    let mut i = 0;
-    while i < s.len() {
-        if s[i] != 0x20 && s[i] != other {
-            return false;
-        }
-        i += 1;
-    }
-    true
+    s.iter().all(|b| *b == 0x20 || *b == other)
 }
 
 pub fn all_spaces(s: &[u8]) -> bool

@@ -1,4 +1,5 @@
 -- What the proof of the loop over the slots cites: a turn, a refusal, and the lists as the code holds them. Assumes nothing.
+use Rattle.std.specs.Prelude.{Ok, Err}
 use Prim.Native.Nat.{ℕ, zero, suc, ◌+◌, ◌-◌, ◌*◌, ◌≤◌, ◌<◌}
 use mathlib.Core.Path.{◌≡◌, ap, ◌∙◌}
 use mathlib.Core.List.{List, ◌++◌, map, append_assoc}
@@ -13,7 +14,6 @@ use Rattle.standard_record.specs.declared.HeldPoint.{HeldPoint}
 use Rattle.standard_record.specs.declared.HeldPair.{HeldPair}
 use Rattle.standard_record.specs.declared.HeldTiming.{HeldTiming}
 use Rattle.standard_record.specs.declared.Held.{Held}
-use Rattle.standard_record.specs.declared.Verdict.TheVariants.{Accepted, Refused}
 use Rattle.standard_slots.specs.Said.{Said, refusal, pairs_at, lists}
 use Rattle.standard_parts.specs.declared.Structure.{Structure}
 use Rattle.standard_slots.specs.Few.{pairs_at_most}
@@ -24,13 +24,13 @@ use Rattle.standard_reading.specs.Lists.{ListsOf}
 use Rattle.standard_reading.specs.Room.{timings_room, pairs_room, points_room, descriptors_room}
 
 -- a refusal stays
-pub stays : (s : List ℕ) (f : Refusal) (n : ℕ) → judged s n ≡ Refused f → (k : ℕ) → judged s (k + n) ≡ Refused f
+pub stays : (s : List ℕ) (f : Refusal) (n : ℕ) → judged s n ≡ Err f → (k : ℕ) → judged s (k + n) ≡ Err f
 unfolding judged
 stays s f n e zero = let z : 0 + n ≡ n = omega arith in rw z e
 stays s f n e (suc k) = let z : suc k + n ≡ suc (k + n) = omega arith in rw z (ap (λ v. v then judge (said_in s (k + n)) (start (k + n))) (stays s f n e k))
 
 -- a slot that is refused decides
-pub decides : (s : List ℕ) (i n : ℕ) → judged s i ≡ Accepted → said_in s i ≡ refusal n → i < 4 → judged s 4 ≡ refused_at n (start i)
+pub decides : (s : List ℕ) (i n : ℕ) → judged s i ≡ Ok tt → said_in s i ≡ refusal n → i < 4 → judged s 4 ≡ refused_at n (start i)
 unfolding judged
 decides s i n p e h =
     let z : 3 - i + suc i ≡ 4 = omega arith in
@@ -39,7 +39,7 @@ decides s i n p e h =
 -- the arrays and counts hold what the first i slots list, none of which is refused
 pub record Gathered (s : List ℕ) (i : ℕ) (standards : List HeldPair) (listed : ℕ) (timings : List HeldTiming) (timed : ℕ)
     (points : List HeldPoint) (pointed : ℕ) (entries : List Held) (entered : ℕ) : Type 0 where
-  pub passed : judged s i ≡ Accepted
+  pub passed : judged s i ≡ Ok tt
   pub pairs : Holds 26 blank_standard (pairs_of s i) standards listed
   pub detailed : Holds 4 blank_detailed (timings_of s i) timings timed
   pub white : Holds 6 blank_white (points_of s i) points pointed
@@ -64,7 +64,7 @@ module _ {s : List ℕ} {i : ℕ} {st : List HeldPair} {ns : ℕ} {dt : List Hel
 
   -- one slot more, that says x
   pub one_more : {x : Said} {st' : List HeldPair} {ns' : ℕ} {dt' : List HeldTiming} {nd' : ℕ} {wp' : List HeldPoint} {np' : ℕ} {ds' : List Held} {nh' : ℕ}
-      → said_in s i ≡ x → judge x (start i) ≡ Accepted
+      → said_in s i ≡ x → judge x (start i) ≡ Ok tt
       → Holds 26 blank_standard (pairs_of s i ++ map (held_pair.wrap (i + 1)) (lists x).pairs) st' ns'
       → Holds 4 blank_detailed (timings_of s i ++ map (held_timing.wrap (i + 1)) (lists x).timings) dt' nd'
       → Holds 6 blank_white (points_of s i ++ map (held_point.wrap (i + 1)) (lists x).points) wp' np'

@@ -1,13 +1,12 @@
 -- The standard reading of a block, by fixed offsets.
-use Rattle.std.specs.Prelude.{ℕ, ◌≡◌, List, ◌++◌, map}
+use Rattle.std.specs.Prelude.{ℕ, ◌≡◌, List, ◌++◌, map, Ok, Err}
 use Rattle.bits.specs.Bytes.{◌!◌}
 use Rattle.fixed.specs.Numbered.{turns}
 use Rattle.steps.specs.One.{one_value}
 use Rattle.standard_record.specs.Filler.{blank}
 use Rattle.standard_record.specs.Held.{held_point, held_pair, held_timing, held}
 use Rattle.standard_record.specs.Seen.{Seen, holding}
-use Rattle.standard_record.specs.declared.Verdict.{Verdict}
-use Rattle.standard_record.specs.declared.Verdict.TheVariants.{Accepted, Refused}
+use Rattle.standard_record.specs.Verdict.{Verdict}
 use Rattle.standard_record.specs.declared.StandardRecord.{StandardRecord}
 use Rattle.standard_record.specs.declared.StandardReading.{StandardReading}
 use Rattle.standard_record.specs.declared.StandardTiming.{StandardTiming}
@@ -67,8 +66,8 @@ record_of s = holding (plain s)
 
 -- beside a refusal the record is the filler
 abbrev pub beside : Verdict → StandardRecord → StandardReading
-beside Accepted r = record { edid = r; end = Accepted }
-beside (Refused f) r = record { edid = blank; end = Refused f }
+beside (Ok tt) r = record { edid = r; end = Ok tt }
+beside (Err f) r = record { edid = blank; end = Err f }
 
 unfoldable pub standard_of : List ℕ → StandardReading
 standard_of s = beside (verdict_of s) (record_of s)

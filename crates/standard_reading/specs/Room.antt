@@ -1,6 +1,6 @@
 -- No list is cut: no block says more than the record's lists hold. Pairs, points and descriptors fit because the first slot lists a timing
 -- or nothing.
-use Rattle.std.specs.Prelude.{ℕ, ◌+◌, ◌-◌, ◌*◌, ◌≤◌, ◌≡◌, List, map, length}
+use Rattle.std.specs.Prelude.{ℕ, ◌+◌, ◌-◌, ◌*◌, ◌≤◌, ◌≡◌, List, map, length, Ok}
 use Rattle.std.proofs.Common.{sym, ap, ◌∙◌, arith, length-append}
 use Rattle.std.proofs.lemmas.List.{length-map}
 use Rattle.bits.specs.Fields.{bit}
@@ -8,7 +8,6 @@ use Rattle.bits.specs.Bytes.{◌!◌, part}
 use Rattle.fixed.specs.Numbered.{turns, turns_at_most, turns_later}
 use Rattle.shared_record.specs.Established.{flags_fit}
 use Rattle.standard_record.specs.Held.{held_point, held_pair, held_timing, held}
-use Rattle.standard_record.specs.declared.Verdict.TheVariants.{Accepted}
 use Rattle.standard_record.specs.Seen.{holding, Fits}
 use Rattle.standard_parts.specs.Timings.{flags_of}
 use Rattle.standard_head.specs.Head.{structure_in}
@@ -61,6 +60,6 @@ fits s =
     }
 
 -- the record of a block that is accepted
-pub accepted : (s : List ℕ) → (standard_of s).end ≡ Accepted → (standard_of s).edid ≡ holding (plain s)
+pub accepted : (s : List ℕ) → (standard_of s).end ≡ Ok tt → (standard_of s).edid ≡ holding (plain s)
 unfolding standard_of record_of
 accepted s e = ap (λ v. (beside v (record_of s)).edid) (sym (end_is_verdict s) ∙ e)

@@ -12,7 +12,7 @@ use standard_parts::Pair;
 use standard_record::{
     BLANK_DETAILED, BLANK_HELD, BLANK_STANDARD, BLANK_WHITE, Color, Descriptors, DetailedTimings,
     Held, HeldPair, HeldPoint, HeldTiming, StandardReading, StandardRecord, StandardTimings,
-    Timings, Verdict, WhitePoints,
+    Timings, WhitePoints,
 };
 use standard_slots::{Points, Slot};
 use steps::Refusal;
@@ -52,11 +52,11 @@ fn record_of(
 }
 
 fn refuse(f: Refusal) -> StandardReading
-    ensures { result ≡ record { edid = blank; end = Verdict.Refused f } }
+    ensures { result ≡ record { edid = blank; end = Err f } }
 {
     StandardReading {
         edid: standard_record::blank_record(),
-        end: Verdict::Refused(f),
+        end: Err(f),
     }
 }
 
@@ -65,7 +65,7 @@ fn refuse(f: Refusal) -> StandardReading
 // The eight pairs, then slot after slot. The lists are local arrays that this function alone fills: no call takes or returns one, but for the
 // answer, and so the two loops over pairs are not one function (docs/DECISIONS.md 13). The length is required to have it at hand.
 fn read_slots(s: &[u8]) -> StandardReading
-    requires { (length s.now ≡ 128) × (before_slots s.now ≡ Verdict.Accepted) }
+    requires { (length s.now ≡ 128) × (before_slots s.now ≡ Ok tt) }
     ensures { result ≡ standard_of s.now }
 {
     let structure = standard_parts::structure_of(s[19]);
@@ -150,7 +150,7 @@ fn read_slots(s: &[u8]) -> StandardReading
     );
     StandardReading {
         edid,
-        end: Verdict::Accepted,
+        end: Ok(()),
     }
 }
 
@@ -158,7 +158,7 @@ pub fn read_standard(s: &[u8]) -> StandardReading
     ensures { result ≡ standard_of s.now }
 {
     match standard_verdict::before_slots(s) {
-        Verdict::Refused(f) => refuse(f),
-        Verdict::Accepted => read_slots(s),
+        Err(f) => refuse(f),
+        Ok(()) => read_slots(s),
     }
 }

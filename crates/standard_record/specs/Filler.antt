@@ -1,5 +1,5 @@
 -- The fillers: what stands past a list's length, and the record beside a refusal.
-use Rattle.std.specs.Prelude.{false, replicate}
+use Rattle.std.specs.Prelude.{false, replicate, None}
 use Rattle.timing.specs.Axis.{pixels, lines}
 use Rattle.timing.specs.declared.StereoType.TheVariants as Stereo
 use Rattle.standard_record.specs.declared.Chromaticity.{Chromaticity}
@@ -15,7 +15,6 @@ use Rattle.standard_record.specs.declared.SyncLine.TheVariants.{Green}
 use Rattle.standard_record.specs.declared.Week.TheVariants.{Made}
 use Rattle.standard_record.specs.declared.VideoInput.TheVariants.{Digital}
 use Rattle.standard_record.specs.declared.ImageSize.TheVariants as Size
-use Rattle.standard_record.specs.declared.Gamma.TheVariants as Gamma
 use Rattle.standard_record.specs.declared.DisplayType.TheVariants.{Monochrome}
 use Rattle.standard_record.specs.declared.Kind.TheVariants.{Typed}
 
@@ -23,7 +22,7 @@ abbrev blank_chromaticity : Chromaticity
 blank_chromaticity = record { x = 0; y = 0 }
 
 abbrev pub blank_white : HeldPoint
-blank_white = record { point = record { index = 0; place = blank_chromaticity; gamma = Gamma.None }; slot = 0 }
+blank_white = record { point = record { index = 0; place = blank_chromaticity; gamma = None }; slot = 0 }
 
 abbrev pub blank_standard : HeldPair
 blank_standard = record { pair = record { width = 0; ratio = record { width = 0; height = 0 }; rate = 0 }; slot = 0 }
@@ -53,7 +52,7 @@ blank = record {
   display = record {
     input = Digital false;
     size = Size.None;
-    gamma = Gamma.None;
+    gamma = None;
     features = record {
       standby = false;
       suspend = false;

@@ -3,3 +3,4 @@ pub mod Filler
 pub mod Held
 pub mod Lists
 pub mod Seen
+pub mod Verdict

@@ -63,13 +63,6 @@ pub enum ImageSize {
     Ratio(Ratio),
 }
 
-// In hundredths.
-#[derive(Clone, Copy)]
-pub enum Gamma {
-    None,
-    Some(u16),
-}
-
 #[derive(Clone, Copy)]
 pub enum DisplayType {
     Monochrome,
@@ -100,7 +93,8 @@ pub struct Features {
 pub struct Display {
     pub input: VideoInput,
     pub size: ImageSize,
-    pub gamma: Gamma,
+    // In hundredths.
+    pub gamma: Option<u16>,
     pub features: Features,
 }
 
@@ -124,7 +118,8 @@ pub struct Chromaticities {
 pub struct WhitePoint {
     pub index: u8,
     pub place: Chromaticity,
-    pub gamma: Gamma,
+    // In hundredths.
+    pub gamma: Option<u16>,
 }
 
 #[derive(Clone, Copy)]
@@ -304,11 +299,8 @@ pub struct StandardRecord {
     pub extensions: u8,
 }
 
-#[derive(Clone, Copy)]
-pub enum Verdict {
-    Accepted,
-    Refused(Refusal),
-}
+// Accepted, or refused.
+pub type Verdict = Result<(), Refusal>;
 
 // The record, and beside it how its reading ended; the filler where it was refused.
 #[derive(Clone, Copy)]
@@ -325,7 +317,7 @@ pub const BLANK_WHITE: HeldPoint = HeldPoint {
     point: WhitePoint {
         index: 0,
         place: BLANK_CHROMATICITY,
-        gamma: Gamma::None,
+        gamma: None,
     },
     slot: 0,
 };
@@ -397,7 +389,7 @@ const BLANK: StandardRecord = StandardRecord {
     display: Display {
         input: VideoInput::Digital { dfp: false },
         size: ImageSize::None,
-        gamma: Gamma::None,
+        gamma: None,
         features: Features {
             standby: false,
             suspend: false,

@@ -1,5 +1,5 @@
 -- What holds of every answer that a slot may give holds of what it says: one law, which each fact of a slot cites.
-use Rattle.std.specs.Prelude.{ℕ, ◌+◌, ◌≤◌, Bool, true, false, cond, List, eqb}
+use Rattle.std.specs.Prelude.{ℕ, ◌+◌, ◌≤◌, Bool, true, false, cond, List, eqb, None, Option, Some}
 use Rattle.std.proofs.Common.{arith}
 use Rattle.bits.specs.Bytes.{◌!◌, part}
 use Rattle.tags.specs.Tags.{tag_of}
@@ -7,7 +7,6 @@ use Rattle.tags.specs.declared.Tag.{Tag}
 use Rattle.standard_record.specs.declared.DetailedTiming.{DetailedTiming}
 use Rattle.standard_record.specs.declared.Descriptor.{Descriptor}
 use Rattle.standard_timing.specs.Timing.{clock_in, timing_in}
-use Rattle.standard_timing.specs.declared.Timed.{Timed}
 use Rattle.standard_parts.specs.Descriptors.{closing_refusal, range_refusal}
 use Rattle.standard_parts.specs.Text.{all_spaces, is_padded}
 use Rattle.standard_parts.specs.declared.Structure.{Structure}
@@ -49,9 +48,9 @@ module _ (P : Said → Type 0) (σ : Structure) (t : List ℕ) (at : ℕ) (e : E
       either (Behind x) (eqb kind 0) (closing x b spaces h)
       (either (Behind x) (eqb kind 2) (either (Behind x) (eqb b 0) h (e.refused 4 (omega arith) (omega arith))) h)
 
-  by_timing : (x : Timed) → P (of_timed x)
-  by_timing (Timed.Is d) = e.timed d
-  by_timing Timed.Over = e.refused 6 (omega arith) (omega arith)
+  by_timing : (x : Option DetailedTiming) → P (of_timed x)
+  by_timing (Some d) = e.timed d
+  by_timing None = e.refused 6 (omega arith) (omega arith)
 
   pub each : (i : ℕ) → P (said σ i t at)
   unfolding said

@@ -1,10 +1,10 @@
 -- How much a slot lists at the most, that it is of one kind, and that the first lists a timing or nothing.
-use Rattle.std.specs.Prelude.{ℕ, ◌+◌, ◌*◌, ◌≤◌, ◌≡◌, refl, Bool, true, false, cond, List, [], ◌++◌, eqb, length}
+use Rattle.std.specs.Prelude.{ℕ, ◌+◌, ◌*◌, ◌≤◌, ◌≡◌, refl, Bool, true, false, cond, List, [], ◌++◌, eqb, length, None, Option, Some}
 use Rattle.std.proofs.Common.{arith, length-append}
 use Rattle.bits.specs.Bytes.{◌!◌}
 use Rattle.fixed.specs.Gather.{gather_at_most}
+use Rattle.standard_record.specs.declared.DetailedTiming.{DetailedTiming}
 use Rattle.standard_timing.specs.Timing.{clock_in, timing_in}
-use Rattle.standard_timing.specs.declared.Timed.{Timed}
 use Rattle.standard_parts.specs.Timings.{pair_of}
 use Rattle.standard_parts.specs.declared.Structure.{Structure}
 use Rattle.standard_parts.specs.declared.Pair.{Pair}
@@ -65,7 +65,7 @@ pub first_slot : (σ : Structure) (t : List ℕ) (at : ℕ) → NoneButTimings (
 unfolding said
 first_slot σ t at = go (eqb (clock_in t) 0) (timing_in t)
   where
-    go : (b : Bool) (x : Timed) → NoneButTimings (cond b (refusal 3) (of_timed x))
+    go : (b : Bool) (x : Option DetailedTiming) → NoneButTimings (cond b (refusal 3) (of_timed x))
     go true x = record { pairs = refl; points = refl; descriptors = refl }
-    go false (Timed.Is d) = record { pairs = refl; points = refl; descriptors = refl }
-    go false Timed.Over = record { pairs = refl; points = refl; descriptors = refl }
+    go false (Some d) = record { pairs = refl; points = refl; descriptors = refl }
+    go false None = record { pairs = refl; points = refl; descriptors = refl }

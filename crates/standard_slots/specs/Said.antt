@@ -1,6 +1,6 @@
 -- What a slot says, tag by tag: what is judged, and what is listed. t is its 18 bytes, `at` the place of the first of them in the block, σ the
 -- structure.
-use Rattle.std.specs.Prelude.{ℕ, ◌+◌, ◌*◌, true, cond, List, [], ◌∷◌, ◌++◌, eqb, ltb}
+use Rattle.std.specs.Prelude.{ℕ, ◌+◌, ◌*◌, true, cond, List, [], ◌∷◌, ◌++◌, eqb, ltb, None, Option, Some}
 use Rattle.bits.specs.Bytes.{◌!◌, part}
 use Rattle.fixed.specs.Gather.{gather}
 use Rattle.steps.specs.declared.Span.{Span}
@@ -13,7 +13,6 @@ use Rattle.standard_record.specs.declared.Limits.{Limits}
 use Rattle.standard_record.specs.declared.Descriptor.{Descriptor}
 use Rattle.standard_record.specs.declared.Descriptor.TheVariants.{Serial, Text, Range, Name, Undefined, MakerDefined}
 use Rattle.standard_timing.specs.Timing.{clock_in, timing_in}
-use Rattle.standard_timing.specs.declared.Timed.{Timed}
 use Rattle.standard_parts.specs.Color.{point_of}
 use Rattle.standard_parts.specs.Timings.{pair_of}
 use Rattle.standard_parts.specs.Descriptors.{offsets_of, limits_of, secondary_of, closing_refusal, range_refusal}
@@ -91,9 +90,9 @@ raw_of tag run = cond (ltb tag 0x10) (MakerDefined tag run) (Undefined tag run)
 -- ---- the slot
 
 -- a slot with a clock is a timing
-abbrev pub of_timed : Timed → Said
-of_timed (Timed.Is d) = timing d
-of_timed Timed.Over = refusal 6
+abbrev pub of_timed : Option DetailedTiming → Said
+of_timed (Some d) = timing d
+of_timed None = refusal 6
 
 -- one without goes by its tag
 abbrev pub by_tag : Structure → Tag → List ℕ → ℕ → Said

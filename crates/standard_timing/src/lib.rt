@@ -1,4 +1,4 @@
-// The timing rule of the standard reading: 18 bytes to a detailed timing, or to `Over`, which is refusal 6. It knows no slot, and a clock
+// The timing rule of the standard reading: 18 bytes to a detailed timing, or to none, which is refusal 6. It knows no slot, and a clock
 // of 0, by which a caller tells that there is no timing, is a number to it as any other. Past the end of t every byte is 0.
 #![tactic(auto)]
 
@@ -6,14 +6,7 @@ ghost use Rattle.std.specs.Prelude.{◌≡◌};
 ghost use Rattle.standard_timing.specs.Timing.{line_of, sync_by, sync_of, timed_by, clock_in, across_in, down_in, size_in, border_in, timing_in};
 
 use standard_record::{DetailedTiming, Sync, SyncLine};
-use timing::{AcrossRead, Border, DownRead, Size, StereoType};
-
-// `Over`: sync and front porch exceed the blanking on one axis.
-#[derive(Clone, Copy)]
-pub enum Timed {
-    Is(DetailedTiming),
-    Over,
-}
+use timing::{Across, Border, Down, Size, StereoType};
 
 // ---- the last byte
 
@@ -67,7 +60,7 @@ pub fn clock_in(t: &[u8]) -> u16
     bits::word(bits::byte_at(t, 0), bits::byte_at(t, 1))
 }
 
-fn across_in(t: &[u8]) -> AcrossRead
+fn across_in(t: &[u8]) -> Option<Across>
     ensures { result ≡ across_in t.now }
 {
     timing::across_of(
@@ -80,7 +73,7 @@ fn across_in(t: &[u8]) -> AcrossRead
     )
 }
 
-fn down_in(t: &[u8]) -> DownRead
+fn down_in(t: &[u8]) -> Option<Down>
     ensures { result ≡ down_in t.now }
 {
     timing::down_of(
@@ -111,24 +104,20 @@ fn border_in(t: &[u8]) -> Border
 // ---- the timing
 
 fn timed_by(
-    h: AcrossRead,
-    v: DownRead,
+    h: Option<Across>,
+    v: Option<Down>,
     clock: u32,
     size: Size,
     border: Border,
     interlaced: bool,
     stereo: StereoType,
     sync: Sync,
-) -> Timed
+) -> Option<DetailedTiming>
     ensures { result ≡ timed_by h v clock size border interlaced stereo sync }
 {
-    let AcrossRead::Fits(across) = h else {
-        return Timed::Over;
-    };
-    let DownRead::Fits(down) = v else {
-        return Timed::Over;
-    };
-    Timed::Is(DetailedTiming {
+    let across = h?;
+    let down = v?;
+    Some(DetailedTiming {
         clock,
         across,
         down,
@@ -140,7 +129,9 @@ fn timed_by(
     })
 }
 
-pub fn timing_in(t: &[u8]) -> Timed
+// None: sync and front porch exceed the blanking on one axis.
+#[tactic(auto, unfolding(crate::specs::Timing::timing_in))]
+pub fn timing_in(t: &[u8]) -> Option<DetailedTiming>
     ensures { result ≡ timing_in t.now }
 {
     let last = bits::byte_at(t, 17);

@@ -1,24 +1,23 @@
 -- A verdict is the first refusal in order, or none; here is what is judged before the slots, in standard_reading/specs/Slots the whole.
-use Rattle.std.specs.Prelude.{ℕ, Bool, true, false, ◌&&◌, List, eqb, length}
+use Rattle.std.specs.Prelude.{ℕ, Bool, true, false, ◌&&◌, List, eqb, length, Ok, Err}
 use Rattle.bits.specs.Bytes.{◌!◌}
 use Rattle.sums.specs.Sum.{byte_sum}
-use Rattle.standard_record.specs.declared.Verdict.{Verdict}
-use Rattle.standard_record.specs.declared.Verdict.TheVariants.{Accepted, Refused}
+use Rattle.standard_record.specs.Verdict.{Verdict}
 
 -- a refusal has a number and a place
 abbrev pub refused_at : ℕ → ℕ → Verdict
-refused_at n at = Refused (record { number = n; at = at })
+refused_at n at = Err (record { number = n; at = at })
 
 -- refused where the test fails
 abbrev pub must : Bool → ℕ → ℕ → Verdict
-must true n at = Accepted
+must true n at = Ok tt
 must false n at = refused_at n at
 
 infixl 20 ◌then◌
 -- the first refusal stays
 abbrev pub ◌then◌ : Verdict → Verdict → Verdict
-Refused f then v = Refused f
-Accepted then v = v
+Err f then v = Err f
+(Ok tt) then v = v
 
 -- 00 FF FF FF FF FF FF 00
 abbrev pub is_header : List ℕ → Bool

@@ -23,7 +23,7 @@ fn header_in(s: &[u8]) -> bool
 pub fn refused_at(number: u8, at: usize) -> Verdict
     ensures { result ≡ refused_at number at }
 {
-    Verdict::Refused(Refusal { number, at })
+    Err(Refusal { number, at })
 }
 
 pub fn before_slots(s: &[u8]) -> Verdict
@@ -41,5 +41,5 @@ pub fn before_slots(s: &[u8]) -> Verdict
     if s[18] != 1 {
         return refused_at(9, 18);
     }
-    Verdict::Accepted
+    Ok(())
 }

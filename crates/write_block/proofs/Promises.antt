@@ -1,10 +1,9 @@
 -- What the writer promises of records that a block gives: what follows from the laws of what it is to give one.
-use Rattle.std.specs.Prelude.{ℕ, ◌<◌, ◌≤◌, ◌≡◌, refl, List, ◌∷◌, ◌++◌, length}
+use Rattle.std.specs.Prelude.{ℕ, ◌<◌, ◌≤◌, ◌≡◌, refl, List, ◌∷◌, ◌++◌, length, Ok}
 use Rattle.std.proofs.Common.{sym, ap, ◌∙◌, lt-ltb}
 use Rattle.standard_record.specs.Seen.{seen}
 use Rattle.standard_record.specs.declared.StandardRecord.{StandardRecord}
 use Rattle.standard_record.specs.declared.HeldPair.{HeldPair}
-use Rattle.standard_record.specs.declared.Verdict.TheVariants.{Accepted}
 use Rattle.standard_parts.specs.Timings.{ratio}
 use Rattle.standard_reading.specs.Block.{standard_of}
 use Rattle.write_leaf.specs.Bytes.{Bytes}
@@ -38,7 +37,7 @@ module _ {r : StandardRecord} {lent before after : List ℕ} {number : ℕ} wher
   new_1_1_is_refused w size new fs bs h is e = uncoded_is_refused w size fs bs h is (λ c. no_1_1 _ new (rw e at c))
 
 -- the record of every accepted block is written
-pub read_is_written : (b : List ℕ) {before after : List ℕ} {number : ℕ} → Bytes b → (standard_of b).end ≡ Accepted
+pub read_is_written : (b : List ℕ) {before after : List ℕ} {number : ℕ} → Bytes b → (standard_of b).end ≡ Ok tt
     → Written (standard_of b).edid b before number after → length before ≡ 128 → number ≡ 0
 read_is_written b h e w size = given_is_written w size b (gives_own b h e)
 

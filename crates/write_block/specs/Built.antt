@@ -1,5 +1,5 @@
 -- Where all parts of a record fit, its canonical block gives it.
-use Rattle.std.specs.Prelude.{ℕ, zero, suc, ◌+◌, ◌<◌, ◌≡◌, List, [], ◌∷◌, ◌++◌, map, length}
+use Rattle.std.specs.Prelude.{ℕ, zero, suc, ◌+◌, ◌<◌, ◌≡◌, List, [], ◌∷◌, ◌++◌, map, length, Ok}
 use Rattle.std.proofs.Math.Path.{refl}
 use Rattle.std.proofs.Common.{sym, ap, ap₂, ◌∙◌, subst, append-nil, append_assoc, arith, length-append}
 use Rattle.std.proofs.lemmas.List.{get_or_at}
@@ -14,7 +14,6 @@ use Rattle.standard_record.specs.Held.{held_pair, held_point, held_timing, held}
 use Rattle.standard_record.specs.declared.StandardRecord.{StandardRecord}
 use Rattle.standard_record.specs.declared.DetailedTiming.{DetailedTiming}
 use Rattle.shared_record.specs.declared.Version.{Version}
-use Rattle.standard_record.specs.declared.Verdict.TheVariants.{Accepted}
 use Rattle.standard_parts.specs.Structure.{structure_of}
 use Rattle.standard_parts.specs.declared.Structure.{Structure}
 use Rattle.standard_head.specs.Head.{structure_in, product_in, colors_in}
@@ -44,7 +43,7 @@ use Rattle.write_block.specs.Every.{gather_length, block_size, canonical_slot}
 use Rattle.write_block.specs.Given.{not_refused, said_timing, said_later_lem}
 
 -- what shows entries is not refused
-is_accepted_lem : (s : List ℕ) (x : Said) (at : ℕ) (l : Entries) → shows s x ≡ these l → judge x at ≡ Accepted
+is_accepted_lem : (s : List ℕ) (x : Said) (at : ℕ) (l : Entries) → shows s x ≡ these l → judge x at ≡ Ok tt
 is_accepted_lem s (refusal n) at l e = cc
 is_accepted_lem s nothing at l e = refl
 is_accepted_lem s (timing d) at l e = refl
@@ -172,13 +171,13 @@ module _ (r : StandardRecord) (lent : List ℕ) (fit : Fit r lent) where
   in_block : (i : ℕ) → i < 4 → shows b (said_in b i) ≡ these (entries_of lent (taken x i))
   in_block i h = rw structure_is (shown_in_block σ b (start i) i ∙ ap (λ t. shows t (said σ i t 0)) (block_slot i h) ∙ at_slot i h)
 
-  accepted_slot : (i : ℕ) → i < 4 → judge (said_in b i) (start i) ≡ Accepted
+  accepted_slot : (i : ℕ) → i < 4 → judge (said_in b i) (start i) ≡ Ok tt
   accepted_slot i h = is_accepted_lem b (said_in b i) (start i) _ (in_block i h)
 
   said_is : (i : ℕ) → i < 4 → entries_of b (lists (said_in b i)) ≡ entries_of lent (taken x i)
   said_is i h = these_one (sym (not_refused b (said_in b i) (start i) (accepted_slot i h)) ∙ in_block i h)
 
-  verdict : judged b 4 ≡ Accepted
+  verdict : judged b 4 ≡ Ok tt
   unfolding judged before_slots
   verdict =
       rw (

@@ -1,6 +1,6 @@
 -- Where a block gives a record: what each slot takes of the record's lists is what the block's slot shows, and nothing is left.
 use Prim.Native.Nat.{ℕ, zero, suc, ◌+◌, ◌-◌, ◌<◌}
-use Rattle.std.specs.Prelude.{◌≡◌, refl, length}
+use Rattle.std.specs.Prelude.{◌≡◌, refl, length, Ok}
 use Rattle.std.proofs.Math.Path.{sym}
 use Rattle.std.proofs.Common.{ap, ◌∙◌, length-take, length-drop, ne_eqb}
 use mathlib.Core.List.{List, [], ◌∷◌, ◌++◌, map, cons≢nil}
@@ -12,7 +12,6 @@ use Rattle.standard_record.specs.Held.{held_pair, held_point, held_timing, held}
 use Rattle.standard_record.specs.declared.StandardRecord.{StandardRecord}
 use Rattle.standard_record.specs.declared.DetailedTiming.{DetailedTiming}
 use Rattle.standard_record.specs.declared.Descriptor.{Descriptor}
-use Rattle.standard_record.specs.declared.Verdict.TheVariants.{Accepted}
 use Rattle.standard_timing.specs.Timing.{clock_in}
 use Rattle.standard_head.specs.Head.{structure_in}
 use Rattle.standard_verdict.specs.Laws.{has_header, has_version}
@@ -61,7 +60,7 @@ shown_later σ (suc i) t l h = rw (← said_later_lem σ i t 0) h
 
 -- ---- an accepted block
 
-pub not_refused : (s : List ℕ) (x : Said) (at : ℕ) → judge x at ≡ Accepted → shows s x ≡ these (entries_of s (lists x))
+pub not_refused : (s : List ℕ) (x : Said) (at : ℕ) → judge x at ≡ Ok tt → shows s x ≡ these (entries_of s (lists x))
 not_refused s (refusal n) at e = cc
 not_refused s nothing at e = refl
 not_refused s (timing d) at e = refl

@@ -1,9 +1,8 @@
 -- When a block gives a record, and what the writer answers.
-use Rattle.std.specs.Prelude.{ℕ, ◌≡◌, List, length}
+use Rattle.std.specs.Prelude.{ℕ, ◌≡◌, List, length, Ok}
 use Rattle.standard_record.specs.Seen.{seen}
 use Rattle.standard_record.specs.declared.StandardRecord.{StandardRecord}
 use Rattle.standard_record.specs.declared.Held.{Held}
-use Rattle.standard_record.specs.declared.Verdict.TheVariants.{Accepted}
 use Rattle.standard_reading.specs.Block.{standard_of}
 use Rattle.write_leaf.specs.Bytes.{Bytes}
 use Rattle.write_pairs.specs.Pairs.{All}
@@ -18,7 +17,7 @@ SpansInside hs n = All (λ h. SpanInside h.descriptor n) hs
 -- b is bytes that the standard reading accepts, and its record shows over b what r shows over the bytes lent
 pub record Gives (b : List ℕ) (r : StandardRecord) (lent : List ℕ) : Type 0 where
   pub bytes : Bytes b
-  pub accepted : (standard_of b).end ≡ Accepted
+  pub accepted : (standard_of b).end ≡ Ok tt
   pub inside : SpansInside (seen r).descriptors (length lent)
   pub same : shown b (seen (standard_of b).edid) ≡ shown lent (seen r)
 

@@ -1,11 +1,10 @@
 -- The spans of an accepted block's own record lie inside it.
-use Rattle.std.specs.Prelude.{ℕ, ◌≡◌, List, [], ◌∷◌, length}
+use Rattle.std.specs.Prelude.{ℕ, ◌≡◌, List, [], ◌∷◌, length, Ok}
 use Rattle.std.proofs.Common.{ap, ◌∙◌, arith}
 use Rattle.standard_record.specs.Seen.{seen, shows as holds}
 use Rattle.standard_record.specs.declared.Held.{Held}
 use Rattle.standard_record.specs.declared.Descriptor.{Descriptor}
 use Rattle.standard_record.specs.declared.SecondaryTiming.{SecondaryTiming}
-use Rattle.standard_record.specs.declared.Verdict.TheVariants.{Accepted}
 use Rattle.standard_slots.specs.Spans.{Sound, SoundSecond, Sounds}
 use Rattle.standard_reading.specs.Block.{descriptors_of, plain, standard_of}
 use Rattle.standard_reading.specs.Judged.{accepted_has_128, sounds}
@@ -30,5 +29,5 @@ all_inside : (b : List ℕ) (hs : List Held) → Sounds b hs 126 → SpansInside
 all_inside b [] h = tt
 all_inside b (x ∷ hs) h = (inside b x.descriptor h.0, all_inside b hs h.1)
 
-pub own_inside : (b : List ℕ) → (standard_of b).end ≡ Accepted → SpansInside (seen (standard_of b).edid).descriptors (length b)
+pub own_inside : (b : List ℕ) → (standard_of b).end ≡ Ok tt → SpansInside (seen (standard_of b).edid).descriptors (length b)
 own_inside b e = rw (ap seen (accepted b e) ∙ holds (plain b) (fits b), accepted_has_128 b e) (all_inside b (descriptors_of b 4) (sounds b e))

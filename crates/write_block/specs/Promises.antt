@@ -1,11 +1,10 @@
 -- What the writer promises: of every answer that its contract allows, and of the canonical block. What rests on which blocks give a record is in proofs/Promises.
-use Rattle.std.specs.Prelude.{ℕ, ◌≡◌, refl, List, length}
+use Rattle.std.specs.Prelude.{ℕ, ◌≡◌, refl, List, length, Ok}
 use Rattle.std.proofs.Common.{sym, ap, ◌∙◌, arith}
 use Rattle.sums.specs.Sum.{byte_sum}
 use Rattle.sums.specs.Joined.{checksum_makes_zero}
 use Rattle.standard_record.specs.Seen.{seen}
 use Rattle.standard_record.specs.declared.StandardRecord.{StandardRecord}
-use Rattle.standard_record.specs.declared.Verdict.TheVariants.{Accepted}
 use Rattle.standard_reading.specs.Block.{standard_of}
 use Rattle.write_leaf.specs.Bytes.{Bytes}
 use Rattle.write_block.specs.Shown.{shown}
@@ -14,7 +13,7 @@ use Rattle.write_block.specs.Gives.{SpansInside, Gives, NoneGives, Written, wron
 use Rattle.write_block.specs.Own.{own_inside}
 
 -- every accepted block gives its own record
-pub gives_own : (b : List ℕ) → Bytes b → (standard_of b).end ≡ Accepted → Gives b (standard_of b).edid b
+pub gives_own : (b : List ℕ) → Bytes b → (standard_of b).end ≡ Ok tt → Gives b (standard_of b).edid b
 gives_own b h e = record { bytes = h; accepted = e; inside = own_inside b e; same = refl }
 
 -- ---- of every answer

@@ -1,5 +1,5 @@
 -- Worked cases, computed: records made of the specimen's front and the lists that stand here, and what is written of each.
-use Rattle.std.specs.Prelude.{ℕ, refl, true, false, List, [], ◌∷◌, length, replicate}
+use Rattle.std.specs.Prelude.{ℕ, refl, true, false, List, [], ◌∷◌, length, replicate, Some}
 use Rattle.std.proofs.Common.{arith}
 use Rattle.timing.specs.Axis.{pixels, lines, back_porch, across_of, down_of}
 use Rattle.timing.specs.declared.SyncPolarity.TheVariants.{Positive}
@@ -25,7 +25,6 @@ use Rattle.standard_record.specs.declared.VideoInput.{VideoInput}
 use Rattle.standard_record.specs.declared.VideoInput.TheVariants.{Digital, Interface}
 use Rattle.standard_record.specs.declared.ImageSize.{ImageSize}
 use Rattle.standard_record.specs.declared.ImageSize.TheVariants as Image
-use Rattle.standard_record.specs.declared.Gamma.TheVariants as Gamma
 use Rattle.standard_record.specs.declared.DisplayType.TheVariants.{Monochrome, RGBColor}
 use Rattle.standard_record.specs.declared.Kind.{Kind}
 use Rattle.standard_record.specs.declared.Kind.TheVariants.{Typed, Encodings}
@@ -96,7 +95,7 @@ panel_with head ds = holding (record {
   display = record {
     input = head.input;
     size = head.size;
-    gamma = Gamma.Some 200;
+    gamma = Some 200;
     features = record { standby = false; suspend = false; lowpower = false; kind = head.kind; srgb = false; preferred = true; gtf = false };
   };
   basic = colors_in specimen;

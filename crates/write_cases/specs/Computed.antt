@@ -1,5 +1,5 @@
 -- How a refusal is computed: from what is read of the canonical block, a number of which is another.
-use Rattle.std.specs.Prelude.{ℕ, ◌+◌, ◌*◌, ◌≡◌, refl, Bool, true, false, cond, List, [], ◌∷◌, eqb, ltb, length}
+use Rattle.std.specs.Prelude.{ℕ, ◌+◌, ◌*◌, ◌≡◌, refl, Bool, true, false, cond, List, [], ◌∷◌, eqb, ltb, length, Ok, Err}
 use Rattle.std.proofs.Common.{sym, ap, ◌∙◌, true≢false, arith, ltb-true}
 use Rattle.std.proofs.lemmas.Bool.{eqb-false}
 use Rattle.standard_record.specs.Seen.{seen}
@@ -15,8 +15,7 @@ use Rattle.standard_record.specs.declared.ImageSize.{ImageSize}
 use Rattle.standard_record.specs.declared.ImageSize.TheVariants as Image
 use Rattle.standard_record.specs.declared.Kind.{Kind}
 use Rattle.standard_record.specs.declared.Kind.TheVariants.{Typed, Encodings}
-use Rattle.standard_record.specs.declared.Verdict.{Verdict}
-use Rattle.standard_record.specs.declared.Verdict.TheVariants.{Accepted, Refused}
+use Rattle.standard_record.specs.Verdict.{Verdict}
 use Rattle.standard_parts.specs.Text.{every}
 use Rattle.standard_reading.specs.Slots.{verdict_of}
 use Rattle.standard_reading.specs.Block.{plain, standard_of}
@@ -40,8 +39,8 @@ module _ (r : StandardRecord) (lent : List ℕ) where
 
   -- it is refused
   abbrev pub is_accepted : Verdict → Bool
-  is_accepted Accepted = true
-  is_accepted (Refused f) = false
+  is_accepted (Ok tt) = true
+  is_accepted (Err f) = false
 
   pub unread : is_accepted (verdict_of made) ≡ false → NoneGives r lent
   unread e = refused_if r lent (λ g. true≢false (sym (ap is_accepted (sym (end_is_verdict made) ∙ g.accepted)) ∙ e))
@@ -118,5 +117,5 @@ bytes_by (x ∷ s) h = go (ltb x 256) refl h (bytes_by s)
     go false e h rest = absurd (true≢false (sym h))
 
 -- a block gives a record, by what is computed of it
-pub gives : (b : List ℕ) (r : StandardRecord) (lent : List ℕ) → every (λ b. ltb b 256) b ≡ true → (standard_of b).end ≡ Accepted → SpansInside (seen r).descriptors (length lent) → shown b (seen (standard_of b).edid) ≡ shown lent (seen r) → Gives b r lent
+pub gives : (b : List ℕ) (r : StandardRecord) (lent : List ℕ) → every (λ b. ltb b 256) b ≡ true → (standard_of b).end ≡ Ok tt → SpansInside (seen r).descriptors (length lent) → shown b (seen (standard_of b).edid) ≡ shown lent (seen r) → Gives b r lent
 gives b r lent bytes accepted inside same = record { bytes = bytes_by b bytes; accepted = accepted; inside = inside; same = same }

@@ -1,8 +1,7 @@
 -- Laws: a white point or a text that any bytes are read as, is read from its own bytes; the bytes of a pair are bytes.
-use Rattle.std.specs.Prelude.{ℕ, zero, suc, ◌<◌, List, [], ◌∷◌, replicate}
+use Rattle.std.specs.Prelude.{ℕ, zero, suc, ◌<◌, List, [], ◌∷◌, replicate, None, Option, Some}
 use Rattle.std.proofs.Common.{arith}
 use Rattle.standard_record.specs.declared.StandardTiming.{StandardTiming}
-use Rattle.standard_record.specs.declared.Gamma.{Gamma}
 use Rattle.standard_record.specs.declared.WhitePoint.{WhitePoint}
 use Rattle.standard_parts.specs.Text.{text_length}
 use Rattle.write_leaf.specs.Bytes.{Bytes}
@@ -21,9 +20,9 @@ pair_are_bytes v = omega arith
 
 -- ---- white points
 
-pub gamma_is_byte : (g : Gamma) → gamma_byte g < 256
-gamma_is_byte Gamma.None = omega arith
-gamma_is_byte (Gamma.Some n) = omega arith
+pub gamma_is_byte : (g : Option ℕ) → gamma_byte g < 256
+gamma_is_byte None = omega arith
+gamma_is_byte (Some n) = omega arith
 
 pub point_again : (p : WhitePoint) (t : List ℕ) → Bytes t → ReadsPoint t p → Again Bytes ReadsPoint point_bytes p
 unfolding point_bytes

@@ -1,7 +1,6 @@
 -- The five bytes of a white point, with its gamma's.
-use Rattle.std.specs.Prelude.{ℕ, ◌+◌, ◌*◌, ◌/◌, ◌%◌, ◌≡◌, Bool, true, List, [], ◌∷◌, eqb, leb}
+use Rattle.std.specs.Prelude.{ℕ, ◌+◌, ◌*◌, ◌/◌, ◌%◌, ◌≡◌, Bool, true, List, [], ◌∷◌, eqb, leb, None, Option, Some}
 use Rattle.standard_record.specs.declared.WhitePoint.{WhitePoint}
-use Rattle.standard_record.specs.declared.Gamma.{Gamma}
 use Rattle.standard_parts.specs.Head.{gamma_of}
 use Rattle.standard_parts.specs.Color.{point_of}
 use Rattle.standard_parts.specs.declared.Point.TheVariants as Point
@@ -12,15 +11,15 @@ use Rattle.write_leaf.specs.Leaf.{Writes, WritesByte}
 -- ---- gamma
 
 -- less 100, modulo 256
-abbrev pub gamma_byte : Gamma → ℕ
-gamma_byte Gamma.None = 0xff
-gamma_byte (Gamma.Some g) = (g + 156) % 256
+abbrev pub gamma_byte : Option ℕ → ℕ
+gamma_byte None = 0xff
+gamma_byte (Some g) = (g + 156) % 256
 
-abbrev pub gamma_fits : Gamma → Bool
-gamma_fits Gamma.None = true
-gamma_fits (Gamma.Some g) = eqb (digit (leb 100 g) + digit (leb g 354)) 2
+abbrev pub gamma_fits : Option ℕ → Bool
+gamma_fits None = true
+gamma_fits (Some g) = eqb (digit (leb 100 g) + digit (leb g 354)) 2
 
-abbrev pub WritesGamma : Gamma → Bool → ℕ → Type 0
+abbrev pub WritesGamma : Option ℕ → Bool → ℕ → Type 0
 WritesGamma = WritesByte gamma_of gamma_byte
 
 -- ---- the point

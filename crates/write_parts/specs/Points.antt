@@ -1,11 +1,10 @@
 -- Laws: a gamma's byte, and a white point, from what is known of its gamma's byte.
-use Rattle.std.specs.Prelude.{ℕ, ◌+◌, ◌*◌, ◌/◌, ◌%◌, ◌≤◌, ◌≡◌, refl, Bool, true, false, cond, List, eqb, leb}
+use Rattle.std.specs.Prelude.{ℕ, ◌+◌, ◌*◌, ◌/◌, ◌%◌, ◌≤◌, ◌≡◌, refl, Bool, true, false, cond, List, eqb, leb, None, Option, Some}
 use Rattle.std.proofs.Math.Path.{ap}
 use Rattle.std.proofs.Common.{arith}
 use borrow.Author.Tests.{eqb-false, ne_eqb, le-leb, leb-true}
 use Rattle.bits.specs.Fields.{digits}
 use Rattle.standard_record.specs.declared.WhitePoint.{WhitePoint}
-use Rattle.standard_record.specs.declared.Gamma.{Gamma}
 use Rattle.standard_parts.specs.Head.{gamma_of}
 use Rattle.standard_parts.specs.Color.{chromaticity_of, point_of}
 use Rattle.standard_parts.specs.declared.Point.TheVariants as Point
@@ -17,17 +16,17 @@ use Rattle.write_leaf.specs.Every.{at}
 
 -- ---- gamma
 
-gamma_back : (g : Gamma) → gamma_fits g ≡ true → gamma_of (gamma_byte g) ≡ g
+gamma_back : (g : Option ℕ) → gamma_fits g ≡ true → gamma_of (gamma_byte g) ≡ g
 unfolding gamma_of
-gamma_back Gamma.None h = refl
-gamma_back (Gamma.Some g) h =
+gamma_back None h = refl
+gamma_back (Some g) h =
     let all = two_hold (leb 100 g) (leb g 354) h in
     let least = leb-true 100 g all.0 in
     let most = leb-true g 354 all.1 in
     let e : (g + 156) % 256 + 100 ≡ g = omega arith in
     rw (ne_eqb ((g + 156) % 256) 255 (omega arith), e)
 
-pub writes_gamma : (g : Gamma) → WritesGamma g (gamma_fits g) (gamma_byte g)
+pub writes_gamma : (g : Option ℕ) → WritesGamma g (gamma_fits g) (gamma_byte g)
 unfolding gamma_of
 writes_gamma g = record {
   made = refl;

@@ -7,7 +7,7 @@ ghost use Rattle.write_parts.specs.Point.{WritesGamma, WritesPoint};
 ghost use Rattle.write_parts.specs.Text.{text_byte, WritesText};
 
 use standard_parts::{Pair, Structure};
-use standard_record::{Gamma, Ratio, StandardTiming, WhitePoint};
+use standard_record::{Ratio, StandardTiming, WhitePoint};
 use write_leaf::{OneByte, TwoBytes};
 
 #[derive(Drop)]
@@ -69,15 +69,15 @@ pub fn pair_bytes(structure: Structure, v: StandardTiming) -> TwoBytes
 
 // ---- white points
 
-pub fn gamma_byte(g: Gamma) -> OneByte
+pub fn gamma_byte(g: Option<u16>) -> OneByte
     ensures { WritesGamma g result.fits result.byte }
 {
     match g {
-        Gamma::None => OneByte {
+        None => OneByte {
             fits: true,
             byte: 0xff,
         },
-        Gamma::Some(n) => OneByte {
+        Some(n) => OneByte {
             fits: write_leaf::digit(100 <= n) + write_leaf::digit(n <= 354) == 2,
             byte: ((n as u32 + 156) % 256) as u8,
         },

@@ -3,7 +3,7 @@
 // that the writer makes of it, and then a line `--`.
 #![tactic(auto)]
 
-use standard_record::{StandardRecord, Verdict};
+use standard_record::StandardRecord;
 use std::io;
 use steps::Refusal;
 
@@ -21,8 +21,8 @@ fn rewrite(out: &mut [u8; 4096], s: &[u8]) -> usize {
     let r = standard_reading::read_standard(s);
     let end = r.end;
     match end {
-        Verdict::Refused(f) => shared_lines::refuse_line(out, 0, f),
-        Verdict::Accepted => block_line(out, s, r.edid),
+        Err(f) => shared_lines::refuse_line(out, 0, f),
+        Ok(()) => block_line(out, s, r.edid),
     }
 }
 

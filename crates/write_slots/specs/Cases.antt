@@ -1,5 +1,5 @@
 -- What a slot may say, and what its bytes then are: one law, by which each fact goes back from what a slot says to its bytes.
-use Rattle.std.specs.Prelude.{ℕ, ◌+◌, ◌<◌, ◌≡◌, Bool, cond, List}
+use Rattle.std.specs.Prelude.{ℕ, ◌+◌, ◌<◌, ◌≡◌, Bool, cond, List, None, Option, Some}
 use Rattle.std.proofs.Math.Path.{refl}
 use Rattle.std.proofs.Math.Bool.{true, false}
 use Rattle.std.proofs.Common.{arith}
@@ -12,7 +12,6 @@ use Rattle.tags.specs.declared.Tag.{Tag}
 use Rattle.standard_record.specs.declared.DetailedTiming.{DetailedTiming}
 use Rattle.standard_record.specs.declared.Descriptor.{Descriptor}
 use Rattle.standard_timing.specs.Timing.{clock_in, timing_in}
-use Rattle.standard_timing.specs.declared.Timed.{Timed}
 use Rattle.standard_parts.specs.Descriptors.{closing_refusal, range_refusal}
 use Rattle.standard_parts.specs.Text.{all_spaces, is_padded, text_length}
 use Rattle.standard_parts.specs.declared.Structure.{Structure}
@@ -22,7 +21,7 @@ use Rattle.standard_slots.specs.Said.{Said, refusal, nothing, timing, pairs, poi
 pub record Cases (P : Said → Type 0) (σ : Structure) (t : List ℕ) (at : ℕ) : Type 0 where
   pub refused : (n : ℕ) → P (refusal n)
   pub none : P nothing
-  pub timed : (d : DetailedTiming) → 0 < clock_in t → timing_in t ≡ Timed.Is d → P (timing d)
+  pub timed : (d : DetailedTiming) → 0 < clock_in t → timing_in t ≡ Some d → P (timing d)
   pub listed : P (pairs (pairs_in σ t))
   pub pointed : P (points (points_in t))
   pub name : is_padded (part t 5 13) (text_length (part t 5 13)) ≡ true → P (described (Descriptor.Name (text_in t at)))
@@ -56,9 +55,9 @@ module _ (P : Said → Type 0) (σ : Structure) (t : List ℕ) (at : ℕ) (e : C
   by_tag_lem Tag.Serial p = worded Descriptor.Serial e.serial
   by_tag_lem Tag.Raw p = e.raw p
 
-  by_timing : (x : Timed) → 0 < clock_in t → timing_in t ≡ x → P (of_timed x)
-  by_timing (Timed.Is d) h p = e.timed d h p
-  by_timing Timed.Over h p = e.refused 6
+  by_timing : (x : Option DetailedTiming) → 0 < clock_in t → timing_in t ≡ x → P (of_timed x)
+  by_timing (Some d) h p = e.timed d h p
+  by_timing None h p = e.refused 6
 
   pub told : (i : ℕ) → P (said σ i t at)
   unfolding said

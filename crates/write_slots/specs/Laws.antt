@@ -1,5 +1,5 @@
 -- Laws of what a slot shows, for who puts slots into a block.
-use Rattle.std.specs.Prelude.{ℕ, zero, suc, ◌+◌, ◌<◌, ◌≤◌, ◌≡◌, Bool, true, false, cond, eqb, ltb, take, drop}
+use Rattle.std.specs.Prelude.{ℕ, zero, suc, ◌+◌, ◌<◌, ◌≤◌, ◌≡◌, Bool, true, false, cond, eqb, ltb, take, drop, None, Option, Some}
 use Rattle.std.proofs.Math.Path.{refl, ap}
 use Rattle.std.proofs.Common.{sym, ◌∙◌, arith, length-take, take-take, drop-drop, ne_eqb}
 use mathlib.Core.List.{List, [], ◌∷◌, nil≢cons, head-eq_of_cons-eq}
@@ -12,7 +12,6 @@ use Rattle.standard_record.specs.declared.StandardTiming.{StandardTiming}
 use Rattle.standard_record.specs.declared.WhitePoint.{WhitePoint}
 use Rattle.standard_record.specs.declared.Descriptor.{Descriptor}
 use Rattle.standard_timing.specs.Timing.{clock_in, timing_in}
-use Rattle.standard_timing.specs.declared.Timed.{Timed}
 use Rattle.standard_parts.specs.Descriptors.{closing_refusal, range_refusal, offsets_of, limits_of, secondary_of}
 use Rattle.standard_parts.specs.Text.{text_length, all_spaces}
 use Rattle.standard_parts.specs.TextEnds.{text_ends}
@@ -88,9 +87,9 @@ module _ (σ : Structure) (b : List ℕ) (at : ℕ) where
   by_tag_lem Tag.Serial = worded Descriptor.Serial (ap serial text_span)
   by_tag_lem Tag.Raw = ap one raw_span
 
-  by_timing : (x : Timed) → Alike (of_timed x) (of_timed x)
-  by_timing (Timed.Is d) = refl
-  by_timing Timed.Over = refl
+  by_timing : (x : Option DetailedTiming) → Alike (of_timed x) (of_timed x)
+  by_timing (Some d) = refl
+  by_timing None = refl
 
   pub shown_in_block : (i : ℕ) → shows b (said σ i (part b at 18) at) ≡ shows (part b at 18) (said σ i (part b at 18) 0)
   unfolding said
@@ -101,7 +100,7 @@ module _ (σ : Structure) (b : List ℕ) (at : ℕ) where
 
 -- ---- timings
 
-pub timing_shown : (σ : Structure) (i : ℕ) (t : List ℕ) (d : DetailedTiming) → 0 < clock_in t → timing_in t ≡ Timed.Is d
+pub timing_shown : (σ : Structure) (i : ℕ) (t : List ℕ) (d : DetailedTiming) → 0 < clock_in t → timing_in t ≡ Some d
     → shows t (said σ i t 0) ≡ these (entries (d ∷ []) [] [] [])
 unfolding said
 timing_shown σ i t d h e = rw (ne_eqb (clock_in t) 0 (omega arith), e)
@@ -111,12 +110,12 @@ timings_of refused = []
 timings_of (these l) = l.timings
 
 pub shown_timing : (σ : Structure) (i : ℕ) (t : List ℕ) (d : DetailedTiming) (ts : List DetailedTiming) (ps : List StandardTiming) (ws : List WhitePoint) (ds : List Words)
-    → shows t (said σ i t 0) ≡ these (entries (d ∷ ts) ps ws ds) → (0 < clock_in t) × (timing_in t ≡ Timed.Is d)
+    → shows t (said σ i t 0) ≡ these (entries (d ∷ ts) ps ws ds) → (0 < clock_in t) × (timing_in t ≡ Some d)
 shown_timing σ i t d ts ps ws ds h =
-    told (λ x. timings_of (shows t x) ≡ d ∷ ts → (0 < clock_in t) × (timing_in t ≡ Timed.Is d)) σ t 0 (record {
+    told (λ x. timings_of (shows t x) ≡ d ∷ ts → (0 < clock_in t) × (timing_in t ≡ Some d)) σ t 0 (record {
       refused = λ n e. absurd (nil≢cons e);
       none = λ e. absurd (nil≢cons e);
-      timed = λ d l p e. (l, p ∙ ap Timed.Is (head-eq_of_cons-eq e));
+      timed = λ d l p e. (l, p ∙ ap Some (head-eq_of_cons-eq e));
       listed = λ e. absurd (nil≢cons e);
       pointed = λ e. absurd (nil≢cons e);
       name = λ p e. absurd (nil≢cons e);
@@ -131,10 +130,10 @@ pub first_slot_timing : (σ : Structure) (t : List ℕ) (l : Entries) → shows 
 unfolding said
 first_slot_timing σ t l h = go (eqb (clock_in t) 0) (timing_in t) h
   where
-    go : (z : Bool) (x : Timed) → shows t (cond z (refusal 3) (of_timed x)) ≡ these l → (d : DetailedTiming) × (l ≡ entries (d ∷ []) [] [] [])
+    go : (z : Bool) (x : Option DetailedTiming) → shows t (cond z (refusal 3) (of_timed x)) ≡ these l → (d : DetailedTiming) × (l ≡ entries (d ∷ []) [] [] [])
     go true x h = let z : ◌≡◌ {A = ℕ} 0 1 = cc in absurd (omega arith)
-    go false (Timed.Is d) h = (d, cc)
-    go false Timed.Over h = let z : ◌≡◌ {A = ℕ} 0 1 = cc in absurd (omega arith)
+    go false (Some d) h = (d, cc)
+    go false None h = let z : ◌≡◌ {A = ℕ} 0 1 = cc in absurd (omega arith)
 
 -- ---- pairs
 

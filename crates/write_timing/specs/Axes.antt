@@ -1,16 +1,14 @@
 -- Laws: the bytes of an axis are read as that axis, where each of its fields fits; and what is read fits.
-use Rattle.std.specs.Prelude.{ℕ, ◌+◌, ◌-◌, ◌*◌, ◌/◌, ◌%◌, ◌<◌, Bool, ◌≡◌}
+use Rattle.std.specs.Prelude.{ℕ, ◌+◌, ◌-◌, ◌*◌, ◌/◌, ◌%◌, ◌<◌, Bool, ◌≡◌, None, Option, Some, option_map}
 use Rattle.std.proofs.Math.Bool.{true, false}
 use Rattle.std.proofs.Math.Path.{refl}
 use Rattle.std.proofs.Common.{arith}
 use Rattle.std.proofs.Math.Dec.{leb}
 use borrow.Author.Tests.{le-leb, leb-true}
 use Rattle.bits.specs.Fields.{digits}
-use Rattle.timing.specs.Axis.{pixels, lines, back_porch, pixels_left, lines_left, across_with, down_with, across_of, down_of}
+use Rattle.timing.specs.Axis.{pixels, lines, back_porch, across_with, down_with, across_of, down_of}
 use Rattle.timing.specs.declared.Across.{Across}
 use Rattle.timing.specs.declared.Down.{Down}
-use Rattle.timing.specs.declared.AcrossRead.{AcrossRead}
-use Rattle.timing.specs.declared.DownRead.{DownRead}
 use Rattle.write_leaf.specs.Bytes.{low, nibbles, uppers}
 use Rattle.write_leaf.specs.Digits.{upper_first, upper_second, field_6, field_4, field_2, field_0}
 use Rattle.write_timing.specs.Timing.{across_blank, down_blank, porch_code}
@@ -64,7 +62,7 @@ by_four_second n m h = omega arith
 module _ (h : Across) (v : Down) where
   pub across_back : AcrossFits h
       → across_of (low h.active.0) (low (across_blank h)) (uppers h.active.0 (across_blank h)) (low h.front.0) (low h.sync.0) (porch_code h v)
-      ≡ AcrossRead.Fits h
+      ≡ Some h
   unfolding across_of back_porch
   across_back f =
       rw (
@@ -80,7 +78,7 @@ module _ (h : Across) (v : Down) where
 
   pub down_back : DownFits v
       → down_of (low v.active.0) (low (down_blank v)) (uppers v.active.0 (down_blank v)) (nibbles v.front.0 v.sync.0) (porch_code h v)
-      ≡ DownRead.Fits v
+      ≡ Some v
   unfolding down_of back_porch
   down_back f =
       rw (
@@ -96,28 +94,28 @@ module _ (h : Across) (v : Down) where
 
 -- ---- what is read fits
 
-abbrev pub AcrossReadFits : AcrossRead → Type 0
-AcrossReadFits (AcrossRead.Fits h) = AcrossFits h
-AcrossReadFits AcrossRead.Over = Unit
+abbrev pub AcrossReadFits : Option Across → Type 0
+AcrossReadFits (Some h) = AcrossFits h
+AcrossReadFits None = Unit
 
-abbrev pub DownReadFits : DownRead → Type 0
-DownReadFits (DownRead.Fits v) = DownFits v
-DownReadFits DownRead.Over = Unit
+abbrev pub DownReadFits : Option Down → Type 0
+DownReadFits (Some v) = DownFits v
+DownReadFits None = Unit
 
 module _ (a b f s : ℕ) (ha : a < 4096) (hb : b < 4096) where
-  across_small : f < 1024 → s < 1024 → AcrossReadFits (across_with (pixels a) (pixels f) (pixels s) (pixels_left (back_porch b f s)))
+  across_small : f < 1024 → s < 1024 → AcrossReadFits (across_with (pixels a) (pixels f) (pixels s) (option_map pixels (back_porch b f s)))
   unfolding back_porch
   across_small hf hs = go (leb (s + f) b) refl
     where
-      go : (t : Bool) → leb (s + f) b ≡ t → AcrossReadFits (across_with (pixels a) (pixels f) (pixels s) (pixels_left (back_porch b f s)))
+      go : (t : Bool) → leb (s + f) b ≡ t → AcrossReadFits (across_with (pixels a) (pixels f) (pixels s) (option_map pixels (back_porch b f s)))
       go true p = rw p (omega (arith, leb-true (s + f) b p))
       go false p = rw p tt
 
-  down_small : f < 64 → s < 64 → DownReadFits (down_with (lines a) (lines f) (lines s) (lines_left (back_porch b f s)))
+  down_small : f < 64 → s < 64 → DownReadFits (down_with (lines a) (lines f) (lines s) (option_map lines (back_porch b f s)))
   unfolding back_porch
   down_small hf hs = go (leb (s + f) b) refl
     where
-      go : (t : Bool) → leb (s + f) b ≡ t → DownReadFits (down_with (lines a) (lines f) (lines s) (lines_left (back_porch b f s)))
+      go : (t : Bool) → leb (s + f) b ≡ t → DownReadFits (down_with (lines a) (lines f) (lines s) (option_map lines (back_porch b f s)))
       go true p = rw p (omega (arith, leb-true (s + f) b p))
       go false p = rw p tt
 

@@ -1,5 +1,5 @@
 -- The 18 bytes of a detailed timing. Digits that the reading drops are 0.
-use Rattle.std.specs.Prelude.{ℕ, ◌+◌, ◌*◌, ◌/◌, ◌%◌, ◌<◌, ◌≡◌, Bool, false, cond, List, [], ◌∷◌, eqb}
+use Rattle.std.specs.Prelude.{ℕ, ◌+◌, ◌*◌, ◌/◌, ◌%◌, ◌<◌, ◌≡◌, Bool, false, cond, List, [], ◌∷◌, eqb, Some}
 use Rattle.timing.specs.declared.Across.{Across}
 use Rattle.timing.specs.declared.Down.{Down}
 use Rattle.timing.specs.declared.Size.{Size}
@@ -13,7 +13,6 @@ use Rattle.standard_record.specs.declared.SyncLine.TheVariants.{Green, RGB}
 use Rattle.standard_record.specs.declared.Sync.{Sync}
 use Rattle.standard_record.specs.declared.Sync.TheVariants.{AnalogComposite, BipolarAnalogComposite, DigitalComposite, DigitalSeparate}
 use Rattle.standard_record.specs.declared.DetailedTiming.{DetailedTiming}
-use Rattle.standard_timing.specs.declared.Timed.{Timed}
 use Rattle.standard_timing.specs.Timing.{clock_in, timing_in}
 use Rattle.write_leaf.specs.Leaf.{Writes}
 use Rattle.write_leaf.specs.Bytes.{Bytes, digit, low, nibbles, uppers}
@@ -68,7 +67,7 @@ timing_bytes d =
 -- bytes with a clock that are read as d
 pub record Reads (t : List ℕ) (d : DetailedTiming) : Type 0 where
   pub clock : 0 < clock_in t
-  pub is : timing_in t ≡ Timed.Is d
+  pub is : timing_in t ≡ Some d
 
 abbrev pub WritesTiming : DetailedTiming → Bool → List ℕ → Type 0
 WritesTiming = Writes Bytes Reads timing_bytes

@@ -1,15 +1,14 @@
 -- Laws: the bytes of a timing are read as it where the test is passed, and it is passed where any bytes are.
-use Rattle.std.specs.Prelude.{ℕ, ◌+◌, ◌*◌, ◌/◌, ◌%◌, ◌<◌, Bool, true, false, cond, List, ◌≡◌, refl, eqb}
+use Rattle.std.specs.Prelude.{ℕ, ◌+◌, ◌*◌, ◌/◌, ◌%◌, ◌<◌, Bool, true, false, cond, List, ◌≡◌, refl, eqb, None, Option, Some}
 use Rattle.std.proofs.Common.{subst, arith, eqb-true, eq-eqb, ne_eqb}
 use Rattle.std.proofs.lemmas.Bool.{eqb-false}
 use Rattle.timing.specs.declared.Size.{Size}
 use Rattle.timing.specs.declared.Border.{Border}
-use Rattle.timing.specs.declared.AcrossRead.{AcrossRead}
-use Rattle.timing.specs.declared.DownRead.{DownRead}
 use Rattle.timing.specs.declared.StereoType.{StereoType}
+use Rattle.timing.specs.declared.Across.{Across}
+use Rattle.timing.specs.declared.Down.{Down}
 use Rattle.standard_record.specs.declared.Sync.{Sync}
 use Rattle.standard_record.specs.declared.DetailedTiming.{DetailedTiming}
-use Rattle.standard_timing.specs.declared.Timed.{Timed}
 use Rattle.standard_timing.specs.Timing.{timed_by, clock_in, across_in, down_in, timing_in}
 use Rattle.bits.specs.Bytes.{◌!◌}
 use Rattle.write_leaf.specs.Bytes.{Bytes, low}
@@ -64,18 +63,18 @@ sound d f =
 
 -- ---- what is read fits
 
-abbrev TimedFits : Timed → Type 0
-TimedFits (Timed.Is d) = Fits d
-TimedFits Timed.Over = Unit
+abbrev TimedFits : Option DetailedTiming → Type 0
+TimedFits (Some d) = Fits d
+TimedFits None = Unit
 
 module _ (clock : ℕ) (size : Size) (border : Border) (interlaced : Bool) (stereo : StereoType) (sync : Sync) where
-  timed_fits : (h : AcrossRead) (v : DownRead) → AcrossReadFits h → DownReadFits v
+  timed_fits : (h : Option Across) (v : Option Down) → AcrossReadFits h → DownReadFits v
       → 0 < clock → clock % 10000 ≡ 0 → clock < 655360000 → size.width < 4096 → size.height < 4096
       → border.across.0 < 256 → border.down.0 < 256
       → TimedFits (timed_by h v clock size border interlaced stereo sync)
-  timed_fits AcrossRead.Over v fh fv = λ c w k x y l t. tt
-  timed_fits (AcrossRead.Fits h) DownRead.Over fh fv = λ c w k x y l t. tt
-  timed_fits (AcrossRead.Fits h) (DownRead.Fits v) fh fv =
+  timed_fits None v fh fv = λ c w k x y l t. tt
+  timed_fits (Some h) None fh fv = λ c w k x y l t. tt
+  timed_fits (Some h) (Some v) fh fv =
       λ c w k x y l t. record { clock = c; whole = w; small = k; across = fh; down = fv; width = x; height = y; left = l; top = t }
 
 read_fits : (t : List ℕ) → Bytes t → 0 < clock_in t → TimedFits (timing_in t)

@@ -5,9 +5,9 @@ use Rattle.cta_reading.proofs.Judged.{head_of}
 use Rattle.cta_reading.proofs.read_cta.Goals as goal
 
 pub read_blocks-requires : goal.read_blocks-requires
-read_blocks-requires c = let e = sym c.before_blocks.ensures ∙ c.in-Accepted.is in ((head_of _ e).size, e)
+read_blocks-requires c = let e = sym c.before_blocks.ensures ∙ c.in-Ok.is in ((head_of _ e).size, e)
 
-pub returns-in-Refused : goal.returns-in-Refused
+pub returns-in-Err : goal.returns-in-Err
 unfolding cta_of
-returns-in-Refused c =
-    rw (c.refuse.ensures, sym c.before_blocks.ensures ∙ c.in-Refused.is)
+returns-in-Err c =
+    rw (c.refuse.ensures, sym c.before_blocks.ensures ∙ c.in-Err.is)

@@ -1,4 +1,5 @@
 -- `naming::name_in` meets its contract. The invariant: the slots passed are not refused, and the name is the first of their texts. Assumes nothing.
+use Rattle.std.specs.Prelude.{Ok}
 use Prim.Native.Nat.{ℕ}
 use mathlib.Core.Path.{◌≡◌, refl, sym, ap, ◌∙◌}
 use mathlib.Core.List.{List, []}
@@ -13,7 +14,6 @@ use Rattle.standard_slots.specs.Answers.{of_slot}
 use Rattle.standard_slots.specs.declared.Slot.{Slot}
 use Rattle.standard_record.specs.declared.Descriptor.{Descriptor}
 use Rattle.standard_record.specs.declared.StandardTiming.{StandardTiming}
-use Rattle.standard_record.specs.declared.Verdict.TheVariants.{Accepted}
 use Rattle.standard_reading.specs.Slots.{start, said_in, judge, judged}
 use Rattle.naming.specs.Slots.{names}
 use Rattle.naming.proofs.Laws.{one_more, no_more, refused_before, refused_slot, passed_all}
@@ -22,7 +22,7 @@ use Rattle.naming.proofs.name_in.Goals.{in-Described, in_default-said}
 
 -- the kinds of slot that are neither refused nor described
 others : (ps : List StandardTiming) (at : ℕ) (r : Slot) → ((n : ℕ) → r ≡ Slot.Refused n → ⊥) → ((d : Descriptor) → r ≡ Slot.Described d → ⊥)
-    → (judge (of_slot ps r) at ≡ Accepted) × (names (of_slot ps r) ≡ [])
+    → (judge (of_slot ps r) at ≡ Ok tt) × (names (of_slot ps r) ≡ [])
 others ps at (Slot.Refused n) a b = absurd (a n refl)
 others ps at Slot.Nothing a b = (refl, refl)
 others ps at (Slot.Timing d) a b = (refl, refl)
@@ -34,12 +34,12 @@ pub returns-in_default : goal.returns-in_default
 returns-in_default c = sym (refused_before _ _ (sym c.before_slots.ensures ∙ c.in_default.is))
 
 pub bounds-s-19 : goal.bounds-s-19
-bounds-s-19 c = omega (arith, has_128 _ (sym c.before_slots.ensures ∙ c.in-Accepted.is))
+bounds-s-19 c = omega (arith, has_128 _ (sym c.before_slots.ensures ∙ c.in-Ok.is))
 
 pub loop-i-init : goal.loop-i-init
 unfolding judged
 loop-i-init c =
-    let e = sym c.before_slots.ensures ∙ c.in-Accepted.is in
+    let e = sym c.before_slots.ensures ∙ c.in-Ok.is in
     (search rules, has_128 _ e, record { passed = e; found = refl })
 
 pub returns : goal.returns

@@ -2,10 +2,10 @@
 use Rattle.panel_lines.specs.Lines.{judged_text}
 use Rattle.panel_lines.proofs.judged_text.Goals as goal
 
-pub returns-in-Accepted : goal.returns-in-Accepted
+pub returns-in-Ok : goal.returns-in-Ok
 unfolding judged_text
-returns-in-Accepted c = rw c.in-Accepted.is c.panel_lines.ensures
+returns-in-Ok c = rw c.in-Ok.is c.panel_lines.ensures
 
-pub returns-in-Refused : goal.returns-in-Refused
+pub returns-in-Err : goal.returns-in-Err
 unfolding judged_text
-returns-in-Refused c = rw c.in-Refused.is c.refuse_line.ensures
+returns-in-Err c = rw c.in-Err.is c.refuse_line.ensures

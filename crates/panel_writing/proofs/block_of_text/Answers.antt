@@ -6,10 +6,10 @@ use Rattle.panel_writing.proofs.block_of_text.Goals as goal
 pub returns-then-out-ne128 : goal.returns-then-out-ne128
 returns-then-out-ne128 c = wrong_length c.if-out-ne128.true refl refl
 
-pub returns-in-Refused : goal.returns-in-Refused
-returns-in-Refused c =
-    not_understood c.if-out-ne128.false _ (rw c.read_panel-panel.ensures at c.in-Refused.is) refl refl
+pub returns-in-Err : goal.returns-in-Err
+returns-in-Err c =
+    not_understood c.if-out-ne128.false _ (rw c.read_panel-panel.ensures at c.in-Err.is) refl refl
 
-pub returns-in-Accepted : goal.returns-in-Accepted
-returns-in-Accepted c =
-    understood c.if-out-ne128.false (rw c.read_panel-panel.ensures at c.in-Accepted.is) (rw (← c.read_panel-panel.ensures) c.write.ensures)
+pub returns-in-Ok : goal.returns-in-Ok
+returns-in-Ok c =
+    understood c.if-out-ne128.false (rw c.read_panel-panel.ensures at c.in-Ok.is) (rw (← c.read_panel-panel.ensures) c.write.ensures)

@@ -2,10 +2,10 @@
 use Rattle.pick_lines.specs.Lines.{reading_lines}
 use Rattle.pick_lines.proofs.reading_lines.Goals as goal
 
-pub returns-in-Refused : goal.returns-in-Refused
+pub returns-in-Err : goal.returns-in-Err
 unfolding reading_lines
-returns-in-Refused c = rw c.in-Refused.is c.refuse_line.ensures
+returns-in-Err c = rw c.in-Err.is c.refuse_line.ensures
 
-pub returns-in-Accepted : goal.returns-in-Accepted
+pub returns-in-Ok : goal.returns-in-Ok
 unfolding reading_lines
-returns-in-Accepted c = rw c.in-Accepted.is c.choice_lines.ensures
+returns-in-Ok c = rw c.in-Ok.is c.choice_lines.ensures

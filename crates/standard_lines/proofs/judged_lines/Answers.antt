@@ -3,12 +3,12 @@ use Rattle.page.specs.Laws.{◌so◌, done, line}
 use Rattle.standard_lines.specs.Lines.{judged_lines}
 use Rattle.standard_lines.proofs.judged_lines.Goals as goal
 
-pub returns-in-Accepted : goal.returns-in-Accepted
+pub returns-in-Ok : goal.returns-in-Ok
 unfolding judged_lines
-returns-in-Accepted c =
-    rw c.in-Accepted.is
+returns-in-Ok c =
+    rw c.in-Ok.is
     (line (c.bytes-n.ensures so c.record_lines.ensures so done))
 
-pub returns-in-Refused : goal.returns-in-Refused
+pub returns-in-Err : goal.returns-in-Err
 unfolding judged_lines
-returns-in-Refused c = rw c.in-Refused.is c.refuse_line.ensures
+returns-in-Err c = rw c.in-Err.is c.refuse_line.ensures

@@ -1,18 +1,13 @@
--- `standard_parts::text_length` meets its contract: the invariant: the bytes passed and what is left. Assumes nothing.
-use native.Mathlib.Omega.{arith}
-use borrow.Author.Rules.{rules}
-use borrow.Author.Tests.{eq-eqb, ne_eqb}
-use Rattle.standard_parts.proofs.Laws.{text_more, text_stop, text_all}
+-- `standard_parts::text_length` meets its contract: `position` finds the first 0x0a. Assumes nothing.
+use Rattle.std.proofs.Common.{◌≡◌, ◌∙◌, true, false, rules, eqb}
+use Rattle.std.proofs.lemmas.Iterator.{IsFirst-from_position, YieldsList-from_slice}
+use borrow.Author.Tests.{tests}
+use Rattle.standard_parts.proofs.Laws.{text_length_is}
 use Rattle.standard_parts.proofs.text_length.Goals as goal
 
-pub loop-i-init : goal.loop-i-init
-loop-i-init c = (search rules, omega arith)
-
-pub loop-i-preserved : goal.loop-i-preserved
-loop-i-preserved c = (search rules, text_more _ _ c.loop-i.invariant.1 c.if-i-s.false (ne_eqb _ _ c.if-s-i-eq10.false))
-
-pub returns-then-i-s : goal.returns-then-i-s
-returns-then-i-s c = text_all _ _ c.loop-i.invariant.1 c.if-i-s.true
-
-pub returns-then-s-i-eq10 : goal.returns-then-s-i-eq10
-returns-then-s-i-eq10 c = text_stop _ _ c.loop-i.invariant.1 c.if-i-s.false (eq-eqb _ _ c.if-s-i-eq10.true)
+pub returns : goal.returns
+returns c =
+    c.unwrap_or.ensures
+    ∙ text_length_is c.args.s.now _
+    (IsFirst-from_position _ _ _ (λ b. eqb b 0x0a ≡ true) (λ b. eqb b 0x0a ≡ false) c.position.ensures.ran
+    (YieldsList-from_slice c.args.s.now cc) (λ x q k. search (rules, tests)) (λ x q k. search (rules, tests)))

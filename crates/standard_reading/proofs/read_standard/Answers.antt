@@ -7,9 +7,9 @@ use Rattle.standard_reading.proofs.Laws.{stays}
 use Rattle.standard_reading.proofs.read_standard.Goals as goal
 
 pub read_slots-requires : goal.read_slots-requires
-read_slots-requires c = let e = sym c.before_slots.ensures ∙ c.in-Accepted.is in (has_128 _ e, e)
+read_slots-requires c = let e = sym c.before_slots.ensures ∙ c.in-Ok.is in (has_128 _ e, e)
 
-pub returns-in-Refused : goal.returns-in-Refused
+pub returns-in-Err : goal.returns-in-Err
 unfolding standard_of judged
-returns-in-Refused c =
-    rw (c.refuse.ensures, stays _ _ 0 (sym c.before_slots.ensures ∙ c.in-Refused.is) 4)
+returns-in-Err c =
+    rw (c.refuse.ensures, stays _ _ 0 (sym c.before_slots.ensures ∙ c.in-Err.is) 4)
