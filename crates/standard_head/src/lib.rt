@@ -6,6 +6,7 @@ ghost use Rattle.standard_head.specs.Head.{product_in, display_in, chromaticity_
 
 use standard_record::{Chromaticities, Chromaticity, Display, Product};
 
+#[tactic(auto, unfolding(crate::specs::Head::product_in))]
 pub fn product_in(s: &[u8]) -> Product
     ensures { result ≡ product_in s.now }
 {
@@ -22,6 +23,7 @@ pub fn product_in(s: &[u8]) -> Product
     }
 }
 
+#[tactic(auto, unfolding(crate::specs::Head::display_in))]
 pub fn display_in(s: &[u8]) -> Display
     ensures { result ≡ display_in s.now }
 {
@@ -43,6 +45,7 @@ fn chromaticity_at(low: u8, s: &[u8], k: u8) -> Chromaticity
     standard_parts::chromaticity_of(low, bits::byte_at(s, k), bits::byte_at(s, k + 1))
 }
 
+#[tactic(auto, unfolding(crate::specs::Head::colors_in))]
 pub fn colors_in(s: &[u8]) -> Chromaticities
     ensures { result ≡ colors_in s.now }
 {

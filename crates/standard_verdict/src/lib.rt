@@ -2,7 +2,7 @@
 #![tactic(auto)]
 
 ghost use Rattle.std.specs.Prelude.{◌≡◌, length};
-ghost use Rattle.standard_verdict.specs.Verdict.{refused_at, is_header, before_slots};
+ghost use Rattle.standard_verdict.specs.Verdict.{refused_at, must, is_header, before_slots};
 
 use standard_record::Verdict;
 use steps::Refusal;
@@ -13,11 +13,7 @@ fn header_in(s: &[u8]) -> bool
 {
     let low = bits::long(bits::word(s[0], s[1]), bits::word(s[2], s[3]));
     let high = bits::long(bits::word(s[4], s[5]), bits::word(s[6], s[7]));
-    if low == 0xffff_ff00 {
-        high == 0x00ff_ffff
-    } else {
-        false
-    }
+    low == 0xffff_ff00 && high == 0x00ff_ffff
 }
 
 pub fn refused_at(number: u8, at: usize) -> Verdict
@@ -26,20 +22,23 @@ pub fn refused_at(number: u8, at: usize) -> Verdict
     Err(Refusal { number, at })
 }
 
+// Refused where the test fails.
+fn must(holds: bool, number: u8, at: usize) -> Verdict
+    ensures { result ≡ must holds number at }
+{
+    if holds {
+        Ok(())
+    } else {
+        refused_at(number, at)
+    }
+}
+
+#[tactic(auto, unfolding(crate::specs::Verdict::before_slots))]
 pub fn before_slots(s: &[u8]) -> Verdict
     ensures { result ≡ before_slots s.now }
 {
-    if s.len() != 128 {
-        return refused_at(7, 0);
-    }
-    if !header_in(s) {
-        return refused_at(2, 0);
-    }
-    if !sums::sum_is_zero(s) {
-        return refused_at(8, 127);
-    }
-    if s[18] != 1 {
-        return refused_at(9, 18);
-    }
-    Ok(())
+    must(s.len() == 128, 7, 0)?;
+    must(header_in(s), 2, 0)?;
+    must(sums::sum_is_zero(s), 8, 127)?;
+    must(s[18] == 1, 9, 18)
 }
