@@ -1,5 +1,5 @@
 -- The structure decides no refusal: what is refused by one is refused by each, with the same number.
-use Rattle.std.specs.Prelude.{ℕ, ◌≡◌, Bool, List, eqb}
+use Rattle.std.specs.Prelude.{ℕ, Result, Ok, Err, ◌≡◌, Bool, List, eqb}
 use Rattle.std.proofs.Math.Bool.{true, false, cond}
 use Rattle.bits.specs.Bytes.{◌!◌, part}
 use Rattle.tags.specs.Tags.{tag_of}
@@ -12,12 +12,9 @@ use Rattle.standard_slots.specs.Said.{Said, refusal, pairs, described, unless, p
 
 module _ (σ τ : Structure) (t : List ℕ) (at n : ℕ) where
   -- what is refused by a number, whichever of two is said otherwise
-  behind : (number : ℕ) (x y : Said) → (x ≡ refusal n → y ≡ refusal n) → unless number x ≡ refusal n → unless number y ≡ refusal n
-  behind number x y passed = go (eqb number 0)
-    where
-      go : (t : Bool) → cond t x (refusal number) ≡ refusal n → cond t y (refusal number) ≡ refusal n
-      go true e = passed e
-      go false e = e
+  behind : (number : Result Unit ℕ) (x y : Said) → (x ≡ refusal n → y ≡ refusal n) → unless number x ≡ refusal n → unless number y ≡ refusal n
+  behind (Ok u) x y passed e = passed e
+  behind (Err m) x y passed e = e
 
   pub refused_alike : (i : ℕ) → said σ i t at ≡ refusal n → said τ i t at ≡ refusal n
   unfolding said

@@ -1,5 +1,5 @@
 -- What holds of every answer that a slot may give holds of what it says: one law, which each fact of a slot cites.
-use Rattle.std.specs.Prelude.{ℕ, ◌+◌, ◌≤◌, Bool, true, false, cond, List, eqb, None, Option, Some}
+use Rattle.std.specs.Prelude.{ℕ, ◌+◌, ◌≤◌, Bool, true, false, cond, List, eqb, None, Option, Some, Result, Ok, Err}
 use Rattle.std.proofs.Common.{arith}
 use Rattle.bits.specs.Bytes.{◌!◌, part}
 use Rattle.tags.specs.Tags.{tag_of}
@@ -31,11 +31,11 @@ either P true h k = h
 either P false h k = k
 
 module _ (P : Said → Type 0) (σ : Structure) (t : List ℕ) (at : ℕ) (e : Each P σ t at) where
-  -- of x behind a test, by the number that the test gives
-  abbrev Behind : Said → ℕ → Type 0
-  Behind x n = P (unless n x)
+  -- of x behind a test, by what the test gives
+  abbrev Behind : Said → Result Unit ℕ → Type 0
+  Behind x r = P (unless r x)
 
-  padding : (x : Said) (b : Bool) → P x → Behind x (cond b 0 5)
+  padding : (x : Said) (b : Bool) → P x → Behind x (cond b (Ok tt) (Err 5))
   padding x b h = either (Behind x) b h (e.refused 5 (omega arith) (omega arith))
 
   closing : (x : Said) (b : ℕ) (spaces : Bool) → P x → Behind x (closing_refusal b spaces)

@@ -4,11 +4,11 @@ use Rattle.std.proofs.Common.{arith, length-append}
 use Rattle.bits.specs.Bytes.{◌!◌}
 use Rattle.fixed.specs.Gather.{gather_at_most}
 use Rattle.standard_record.specs.declared.DetailedTiming.{DetailedTiming}
+use Rattle.standard_record.specs.declared.StandardTiming.{StandardTiming}
+use Rattle.standard_record.specs.declared.WhitePoint.{WhitePoint}
 use Rattle.standard_timing.specs.Timing.{clock_in, timing_in}
 use Rattle.standard_parts.specs.Timings.{pair_of}
 use Rattle.standard_parts.specs.declared.Structure.{Structure}
-use Rattle.standard_parts.specs.declared.Pair.{Pair}
-use Rattle.standard_parts.specs.declared.Point.{Point}
 use Rattle.standard_slots.specs.Said.{Said, refusal, nothing, timing, pairs, points, described, Lists, lists, of_pair, pair_at, pairs_at, of_point, of_timed, said}
 
 -- no more than this
@@ -20,20 +20,20 @@ pub record Few (x : Said) : Type 0 where
 
 -- ---- the parts
 
-pair_at_most : (p : Pair) → length (of_pair p) ≤ 1
-pair_at_most (Pair.Listed v) = omega arith
-pair_at_most Pair.Skipped = omega arith
+pair_at_most : (p : Option StandardTiming) → length (of_pair p) ≤ 1
+pair_at_most (Some v) = omega arith
+pair_at_most None = omega arith
 
 -- n pairs at the most
 pub pairs_at_most : (σ : Structure) (s : List ℕ) (k n : ℕ) → length (pairs_at σ s k n) ≤ n
 pairs_at_most σ s k n =
     omega (arith, gather_at_most (λ i. pair_at σ s (k + 2 * i)) 1 (λ i. pair_at_most (pair_of σ (s ! (k + 2 * i)) (s ! (k + 2 * i + 1)))) n)
 
-point_at_most : (p : Point) → length (of_point p) ≤ 1
-point_at_most (Point.Listed v) = omega arith
-point_at_most Point.Skipped = omega arith
+point_at_most : (p : Option WhitePoint) → length (of_point p) ≤ 1
+point_at_most (Some v) = omega arith
+point_at_most None = omega arith
 
-pub points_at_most : (p q : Point) → length (of_point p ++ of_point q) ≤ 2
+pub points_at_most : (p q : Option WhitePoint) → length (of_point p ++ of_point q) ≤ 2
 points_at_most p q = omega (arith, length-append (of_point p) (of_point q), point_at_most p, point_at_most q)
 
 -- ---- a slot feeds one list at most

@@ -1,6 +1,6 @@
 -- What a slot says, tag by tag: what is judged, and what is listed. t is its 18 bytes, `at` the place of the first of them in the block, σ the
 -- structure.
-use Rattle.std.specs.Prelude.{ℕ, ◌+◌, ◌*◌, true, cond, List, [], ◌∷◌, ◌++◌, eqb, ltb, None, Option, Some}
+use Rattle.std.specs.Prelude.{ℕ, ◌+◌, ◌*◌, true, cond, List, [], ◌∷◌, ◌++◌, eqb, ltb, None, Option, Some, Result, Ok, Err}
 use Rattle.bits.specs.Bytes.{◌!◌, part}
 use Rattle.fixed.specs.Gather.{gather}
 use Rattle.steps.specs.declared.Span.{Span}
@@ -18,8 +18,6 @@ use Rattle.standard_parts.specs.Timings.{pair_of}
 use Rattle.standard_parts.specs.Descriptors.{offsets_of, limits_of, secondary_of, closing_refusal, range_refusal}
 use Rattle.standard_parts.specs.Text.{text_length, all_spaces, is_padded}
 use Rattle.standard_parts.specs.declared.Structure.{Structure}
-use Rattle.standard_parts.specs.declared.Pair.{Pair}
-use Rattle.standard_parts.specs.declared.Point.{Point}
 
 -- a refusal's number, or what the slot lists
 pub data Said : Type 0 where
@@ -30,15 +28,16 @@ pub data Said : Type 0 where
   points : List WhitePoint → Said
   described : Descriptor → Said
 
--- x, unless a test before it gives the number of a refusal; 0 is none
-abbrev pub unless : ℕ → Said → Said
-unless n x = cond (eqb n 0) x (refusal n)
+-- x, unless a test before it gives the number of a refusal
+abbrev pub unless : Result Unit ℕ → Said → Said
+unless (Ok passed) x = x
+unless (Err n) x = refusal n
 
 -- ---- the parts of a slot
 
-abbrev pub of_pair : Pair → List StandardTiming
-of_pair (Pair.Listed v) = v ∷ []
-of_pair Pair.Skipped = []
+abbrev pub of_pair : Option StandardTiming → List StandardTiming
+of_pair (Some v) = v ∷ []
+of_pair None = []
 
 -- the pair at k
 abbrev pub pair_at : Structure → List ℕ → ℕ → List StandardTiming
@@ -52,12 +51,12 @@ pairs_at σ s k n = gather (λ i. pair_at σ s (k + 2 * i)) n
 abbrev pub pairs_in : Structure → List ℕ → List StandardTiming
 pairs_in σ t = pairs_at σ t 5 6
 
-abbrev pub of_point : Point → List WhitePoint
-of_point (Point.Listed v) = v ∷ []
-of_point Point.Skipped = []
+abbrev pub of_point : Option WhitePoint → List WhitePoint
+of_point (Some v) = v ∷ []
+of_point None = []
 
 -- five bytes from k on
-unfoldable pub point_at : List ℕ → ℕ → Point
+unfoldable pub point_at : List ℕ → ℕ → Option WhitePoint
 point_at t k = point_of (t ! k) (t ! (k + 1)) (t ! (k + 2)) (t ! (k + 3)) (t ! (k + 4))
 
 -- of an fb slot
@@ -68,8 +67,8 @@ abbrev pub text_in : List ℕ → ℕ → Span
 text_in t at = record { start = at + 5; len = text_length (part t 5 13) }
 
 -- behind a text of n bytes
-abbrev pub padding_refusal : List ℕ → ℕ → ℕ
-padding_refusal t n = cond (is_padded (part t 5 13) n) 0 5
+abbrev pub padding_refusal : List ℕ → ℕ → Result Unit ℕ
+padding_refusal t n = cond (is_padded (part t 5 13) n) (Ok tt) (Err 5)
 
 abbrev pub text_as : (Span → Descriptor) → List ℕ → ℕ → Said
 text_as d t at = unless (padding_refusal t (text_in t at).len) (described (d (text_in t at)))

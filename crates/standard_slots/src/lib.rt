@@ -2,18 +2,18 @@
 // listed. Past the end of t every byte is 0.
 #![tactic(auto)]
 
-ghost use Rattle.std.specs.Prelude.{◌≡◌, List};
-ghost use Rattle.standard_record.specs.declared.StandardTiming.{StandardTiming};
-ghost use Rattle.standard_slots.specs.Said.{unless, pairs_in, point_at, points_in, text_in, padding_refusal, limits_in, range_in, raw_of, by_tag, said};
+ghost use Rattle.std.specs.Prelude.{◌≡◌, cond, Ok, Err};
+ghost use Rattle.bits.specs.Bytes.{part};
+ghost use Rattle.standard_parts.specs.Text.{is_padded};
+ghost use Rattle.standard_slots.specs.Said.{pairs_in, point_at, points_in, text_in, limits_in, range_in, raw_of, by_tag, said};
 ghost use Rattle.standard_slots.specs.Answers.{of_points, of_slot};
 
-use standard_parts::{Point, Structure};
+use standard_parts::Structure;
 use standard_record::{Descriptor, DetailedTiming, Limits, WhitePoint};
-use standard_timing::Timed;
 use steps::Span;
 use tags::Tag;
 
-// The white points of an fb slot.
+// The white points of an fb slot. Two Options would say one point in two ways, and `one_slot` of specs/Answers.antt holds that one answer says it.
 #[derive(Clone, Copy)]
 pub enum Points {
     None,
@@ -21,10 +21,9 @@ pub enum Points {
     Two(WhitePoint, WhitePoint),
 }
 
-// An fa slot says `Pairs` alone: an enum holds no list of six.
+// What a slot that is not refused says; an fa slot `Pairs` alone: an enum holds no list of six.
 #[derive(Clone, Copy)]
 pub enum Slot {
-    Refused(u8),
     Nothing,
     Timing(DetailedTiming),
     Pairs,
@@ -34,7 +33,8 @@ pub enum Slot {
 
 // ---- the parts of a slot
 
-fn point_at(t: &[u8], k: u8) -> Point
+#[tactic(auto, unfolding(crate::specs::Said::point_at))]
+fn point_at(t: &[u8], k: u8) -> Option<WhitePoint>
     ensures { result ≡ point_at t.now k }
 {
     let k = k as usize;
@@ -50,16 +50,10 @@ fn point_at(t: &[u8], k: u8) -> Point
 fn points_in(t: &[u8]) -> Points
     ensures { of_points result ≡ points_in t.now }
 {
-    let second = point_at(t, 10);
-    match point_at(t, 5) {
-        Point::Skipped => match second {
-            Point::Skipped => Points::None,
-            Point::Listed(q) => Points::One(q),
-        },
-        Point::Listed(p) => match second {
-            Point::Skipped => Points::One(p),
-            Point::Listed(q) => Points::Two(p, q),
-        },
+    match (point_at(t, 5), point_at(t, 10)) {
+        (None, None) => Points::None,
+        (Some(p), None) | (None, Some(p)) => Points::One(p),
+        (Some(p), Some(q)) => Points::Two(p, q),
     }
 }
 
@@ -72,13 +66,15 @@ fn text_in(t: &[u8], at: u8) -> Span
     }
 }
 
-fn padding_refusal(t: &[u8], n: usize) -> u8
-    ensures { result ≡ padding_refusal t.now n }
+// Refusal 5 where anything but padding stands behind the text.
+fn padded_text(t: &[u8], at: u8) -> Result<Span, u8>
+    ensures { result ≡ cond (is_padded (part t.now 5 13) (text_in t.now at).len) (Ok (text_in t.now at)) (Err 5) }
 {
-    if standard_parts::is_padded(bits::part(t, 5, 13), n) {
-        0
+    let text = text_in(t, at);
+    if standard_parts::is_padded(bits::part(t, 5, 13), text.len) {
+        Ok(text)
     } else {
-        5
+        Err(5)
     }
 }
 
@@ -95,6 +91,7 @@ fn limits_in(structure: Structure, t: &[u8]) -> Limits
     )
 }
 
+#[tactic(auto, unfolding(crate::specs::Said::range_in))]
 fn range_in(structure: Structure, t: &[u8], at: u8) -> Descriptor
     ensures { result ≡ range_in structure t.now at }
 {
@@ -128,85 +125,52 @@ fn raw_of(tag: u8, run: Span) -> Descriptor
 
 // ---- the slot
 
-// `number` is that of a refusal, or 0.
-fn unless(number: u8, x: Slot) -> Slot
-    ensures { (ps : List StandardTiming) → of_slot ps result ≡ unless number (of_slot ps x) }
-{
-    if number == 0 {
-        x
-    } else {
-        Slot::Refused(number)
-    }
-}
-
-fn by_tag(structure: Structure, tag: Tag, t: &[u8], at: u8) -> Slot
+// Err: the number of the refusal.
+fn by_tag(structure: Structure, tag: Tag, t: &[u8], at: u8) -> Result<Slot, u8>
     ensures { of_slot (pairs_in structure t.now) result ≡ by_tag structure tag t.now at }
 {
     match tag {
-        Tag::Dummy => Slot::Nothing,
-        Tag::Pairs => unless(
-            standard_parts::closing_refusal(bits::byte_at(t, 17), true),
-            Slot::Pairs,
-        ),
-        Tag::Points => unless(
-            standard_parts::closing_refusal(
-                bits::byte_at(t, 15),
-                standard_parts::all_spaces(bits::part(t, 16, 2)),
-            ),
-            Slot::Points(points_in(t)),
-        ),
-        Tag::Name => {
-            let text = text_in(t, at);
-            unless(
-                padding_refusal(t, text.len),
-                Slot::Described(Descriptor::Name(text)),
-            )
+        Tag::Dummy => Ok(Slot::Nothing),
+        Tag::Pairs => {
+            standard_parts::closing_refusal(bits::byte_at(t, 17), true)?;
+            Ok(Slot::Pairs)
         }
-        Tag::Range => unless(
-            standard_parts::range_refusal(
-                bits::byte_at(t, 10),
-                bits::byte_at(t, 11),
-                standard_parts::all_spaces(bits::part(t, 12, 6)),
-            ),
-            Slot::Described(range_in(structure, t, at)),
-        ),
-        Tag::Text => {
-            let text = text_in(t, at);
-            unless(
-                padding_refusal(t, text.len),
-                Slot::Described(Descriptor::Text(text)),
-            )
+        Tag::Points => {
+            let spaces = standard_parts::all_spaces(bits::part(t, 16, 2));
+            standard_parts::closing_refusal(bits::byte_at(t, 15), spaces)?;
+            Ok(Slot::Points(points_in(t)))
         }
-        Tag::Serial => {
-            let text = text_in(t, at);
-            unless(
-                padding_refusal(t, text.len),
-                Slot::Described(Descriptor::Serial(text)),
-            )
+        Tag::Name => Ok(Slot::Described(Descriptor::Name(padded_text(t, at)?))),
+        Tag::Range => {
+            let spaces = standard_parts::all_spaces(bits::part(t, 12, 6));
+            standard_parts::range_refusal(bits::byte_at(t, 10), bits::byte_at(t, 11), spaces)?;
+            Ok(Slot::Described(range_in(structure, t, at)))
         }
-        Tag::Raw => Slot::Described(raw_of(
-            bits::byte_at(t, 3),
-            Span {
+        Tag::Text => Ok(Slot::Described(Descriptor::Text(padded_text(t, at)?))),
+        Tag::Serial => Ok(Slot::Described(Descriptor::Serial(padded_text(t, at)?))),
+        Tag::Raw => {
+            let run = Span {
                 start: at as usize + 5,
                 len: 13,
-            },
-        )),
+            };
+            Ok(Slot::Described(raw_of(bits::byte_at(t, 3), run)))
+        }
     }
 }
 
-pub fn said(structure: Structure, i: u8, t: &[u8], at: u8) -> Slot
+// Err: the number of the refusal.
+#[tactic(auto, unfolding(crate::specs::Said::said))]
+pub fn said(structure: Structure, i: u8, t: &[u8], at: u8) -> Result<Slot, u8>
     ensures { of_slot (pairs_in structure t.now) result ≡ said structure i t.now at }
 {
-    if standard_timing::clock_in(t) == 0 {
-        if i == 0 {
-            Slot::Refused(3)
-        } else {
-            by_tag(structure, tags::tag_of(bits::byte_at(t, 3)), t, at)
-        }
-    } else {
-        match standard_timing::timing_in(t) {
-            Timed::Is(d) => Slot::Timing(d),
-            Timed::Over => Slot::Refused(6),
-        }
+    if standard_timing::clock_in(t) != 0 {
+        return match standard_timing::timing_in(t) {
+            Some(d) => Ok(Slot::Timing(d)),
+            None => Err(6),
+        };
     }
+    if i == 0 {
+        return Err(3);
+    }
+    by_tag(structure, tags::tag_of(bits::byte_at(t, 3)), t, at)
 }
