@@ -1,14 +1,13 @@
 // The standard reading of a block: judged in the order of the refusals, 7, 2, 8, 9, then slot after slot; each slot is looked at once.
 #![tactic(auto)]
 
-ghost use Rattle.std.specs.Prelude.{◌≡◌, length};
+ghost use Rattle.std.specs.Prelude.{◌≡◌, length, Ok, Err};
 ghost use Rattle.standard_record.specs.Filler.{blank};
 ghost use Rattle.standard_verdict.specs.Verdict.{before_slots};
 ghost use Rattle.standard_reading.specs.Block.{record_of, standard_of};
 ghost use Rattle.standard_reading.specs.Lists.{ListsOf};
 
 use shared_record::Version;
-use standard_parts::Pair;
 use standard_record::{
     BLANK_DETAILED, BLANK_HELD, BLANK_STANDARD, BLANK_WHITE, Color, Descriptors, DetailedTimings,
     Held, HeldPair, HeldPoint, HeldTiming, StandardReading, StandardRecord, StandardTimings,
@@ -20,6 +19,7 @@ use steps::Refusal;
 // ---- the answers
 
 // The lists are those that the block says.
+#[tactic(auto, unfolding(crate::specs::Block::record_of))]
 fn record_of(
     s: &[u8],
     points: WhitePoints,
@@ -71,14 +71,12 @@ fn read_slots(s: &[u8]) -> StandardReading
     let structure = standard_parts::structure_of(s[19]);
     let mut standards = [BLANK_STANDARD; 26];
     let mut listed = 0;
-    let mut k: usize = 0;
-    while k < 8 {
+    for k in 0..8 {
         let a = 38 + 2 * k;
-        if let Pair::Listed(pair) = standard_parts::pair_of(structure, s[a], s[a + 1]) {
+        if let Some(pair) = standard_parts::pair_of(structure, s[a], s[a + 1]) {
             standards[listed] = HeldPair { pair, slot: 0 };
             listed += 1;
         }
-        k += 1;
     }
     let mut timings = [BLANK_DETAILED; 4];
     let mut timed = 0;
@@ -86,28 +84,28 @@ fn read_slots(s: &[u8]) -> StandardReading
     let mut pointed = 0;
     let mut entries = [BLANK_HELD; 3];
     let mut entered = 0;
-    let mut i: u8 = 0;
-    while i < 4 {
+    for i in 0..4u8 {
         let at = 54 + 18 * i;
         let from = at as usize;
         let t = &s[from..from + 18];
         let slot = i as u16 + 1;
-        match standard_slots::said(structure, i, t, at) {
-            Slot::Refused(number) => return refuse(Refusal { number, at: from }),
+        let says = match standard_slots::said(structure, i, t, at) {
+            Ok(says) => says,
+            Err(number) => return refuse(Refusal { number, at: from }),
+        };
+        match says {
             Slot::Nothing => {}
             Slot::Timing(timing) => {
                 timings[timed] = HeldTiming { timing, slot };
                 timed += 1;
             }
             Slot::Pairs => {
-                let mut k: usize = 0;
-                while k < 6 {
+                for k in 0..6 {
                     let a = 5 + 2 * k;
-                    if let Pair::Listed(pair) = standard_parts::pair_of(structure, t[a], t[a + 1]) {
+                    if let Some(pair) = standard_parts::pair_of(structure, t[a], t[a + 1]) {
                         standards[listed] = HeldPair { pair, slot };
                         listed += 1;
                     }
-                    k += 1;
                 }
             }
             Slot::Points(ps) => match ps {
@@ -127,7 +125,6 @@ fn read_slots(s: &[u8]) -> StandardReading
                 entered += 1;
             }
         }
-        i += 1;
     }
     let edid = record_of(
         s,
@@ -148,10 +145,7 @@ fn read_slots(s: &[u8]) -> StandardReading
             len: entered,
         },
     );
-    StandardReading {
-        edid,
-        end: Ok(()),
-    }
+    StandardReading { edid, end: Ok(()) }
 }
 
 pub fn read_standard(s: &[u8]) -> StandardReading

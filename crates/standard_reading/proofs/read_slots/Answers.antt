@@ -1,4 +1,5 @@
 -- `standard_reading::read_slots` meets its contract. The invariants: the arrays and their counts hold the pairs passed, and what the slots passed list. Assumes nothing.
+use Rattle.std.specs.Prelude.{Ok}
 use Prim.Native.Nat.{◌+◌, ◌-◌}
 use mathlib.Core.Path.{◌≡◌, refl, sym, ap, ◌∙◌}
 use mathlib.Core.List.{◌++◌, map, map-append, append_assoc}
@@ -19,7 +20,7 @@ use Rattle.standard_reading.specs.Slots.{start, said_in, judged}
 use Rattle.standard_reading.specs.Block.{pairs_of, standard_of}
 use Rattle.standard_reading.proofs.Laws.{decides, Gathered, bounds, one_more, pairs_so_far, lists_are}
 use Rattle.standard_reading.proofs.read_slots.Goals as goal
-use Rattle.standard_reading.proofs.read_slots.Goals.{in-Listed, in_default, in-Listed-pair_of, in_default-pair_of, in-Nothing, in-Timing, in-Pairs+else-loop-k-2-test, in-Points+in-None, in-Points+in-One, in-Points+in-Two, in-Described}
+use Rattle.standard_reading.proofs.read_slots.Goals.{in-Some, in_default, in-Some-pair_of, in_default-pair_of, in-Nothing, in-Timing, in-Pairs+else-loop-k-2-test, in-Points+in-None, in-Points+in-One, in-Points+in-Two, in-Described}
 
 pub loop-k-init : goal.loop-k-init
 loop-k-init c = (search rules, search rules, record { are = refl; many = refl })
@@ -59,14 +60,14 @@ loop-k-preserved c =
     let h : Holds 26 blank_standard (map (held_pair.wrap 0) (pairs_at (structure_in s) s 38 (c.loop-k.k + 1))) c.match-pair_of.standards c.match-pair_of.listed =
     rw (gather_more, map-append)
     (elim c.match-pair_of.branch [
-      | in-Listed w ↦ took c.loop-k.invariant.2 (ap (λ p. map (held_pair.wrap 0) (of_pair p)) (told ∙ w.in-Listed.is)) (omega arith) w.standards-is w.listed-is
+      | in-Some w ↦ took c.loop-k.invariant.2 (ap (λ p. map (held_pair.wrap 0) (of_pair p)) (told ∙ w.in-Some.is)) (omega arith) w.standards-is w.listed-is
       | in_default w ↦ kept c.loop-k.invariant.2 (ap (λ p. map (held_pair.wrap 0) (of_pair p)) (told ∙ w.in_default.is)) w.standards-is w.listed-is
     ])
     in (search rules, omega (arith, held_at_most h, length-map (pairs_at (structure_in s) s 38 (c.loop-k.k + 1)) (held_pair.wrap 0), pairs_at_most (structure_in s) s 38 (c.loop-k.k + 1)), h)
 
-pub returns-in-Refused : goal.returns-in-Refused
+pub returns-in-Err : goal.returns-in-Err
 unfolding standard_of
-returns-in-Refused c =
+returns-in-Err c =
     let s = c.args.s.now in
     let i = c.loop-i.i in
     let is : said_in s i ≡ of_slot (pairs_in (structure_in s) (part s (start i) 18)) c.said.result =
@@ -74,7 +75,7 @@ returns-in-Refused c =
     in
     rw (
       c.refuse.ensures,
-      decides _ _ _ c.loop-i.invariant.2.passed (is ∙ ap (of_slot _) c.in-Refused.is) (omega (arith, c.loop-i-test.true)),
+      decides _ _ _ c.loop-i.invariant.2.passed (is ∙ ap (of_slot _) c.in-Err.is) (omega (arith, c.loop-i-test.true)),
     )
 
 pub loop-k-2-preserved : goal.loop-k-2-preserved
@@ -86,7 +87,7 @@ loop-k-2-preserved c =
     let h : Holds 26 blank_standard (pairs_of s i ++ map (held_pair.wrap (i + 1)) (pairs_at (structure_in s) t 5 (c.loop-k-2.k + 1))) c.match-pair_of-2.standards c.match-pair_of-2.listed =
     rw (gather_more, map-append (held_pair.wrap (i + 1)) (pairs_at (structure_in s) t 5 c.loop-k-2.k), ← append_assoc)
     (elim c.match-pair_of-2.branch [
-      | in-Listed-pair_of w ↦ took c.loop-k-2.invariant.2 (ap (λ p. map (held_pair.wrap (i + 1)) (of_pair p)) (told ∙ w.in-Listed-pair_of.is)) (omega arith) w.standards-is w.listed-is
+      | in-Some-pair_of w ↦ took c.loop-k-2.invariant.2 (ap (λ p. map (held_pair.wrap (i + 1)) (of_pair p)) (told ∙ w.in-Some-pair_of.is)) (omega arith) w.standards-is w.listed-is
       | in_default-pair_of w ↦ kept c.loop-k-2.invariant.2 (ap (λ p. map (held_pair.wrap (i + 1)) (of_pair p)) (told ∙ w.in_default-pair_of.is)) w.standards-is w.listed-is
     ])
     in (search rules, pairs_so_far s (structure_in s) t i (c.loop-k-2.k + 1) h, h)
@@ -95,32 +96,32 @@ pub loop-i-preserved : goal.loop-i-preserved
 loop-i-preserved c =
     let s = c.args.s.now in
     let i = c.loop-i.i in
-    let m = c.match-said in
+    let m = c.match-says in
     let h = c.loop-i.invariant.2 in
     let is : said_in s i ≡ of_slot (pairs_in (structure_in s) (part s (start i) 18)) c.said.result =
     sym (rw (add-sub_cancel_left, c.structure_of-structure.ensures) at c.said.ensures)
     in
     let grown : Gathered s (i + 1) m.standards m.listed m.timings m.timed m.points m.pointed m.entries m.entered =
-    elim c.match-said.branch [
-      | in-Nothing w ↦ one_more h (is ∙ ap (of_slot _) w.in-Nothing.is) refl
+    elim c.match-says.branch [
+      | in-Nothing w ↦ one_more h (is ∙ ap (of_slot _) (c.in-Ok.is ∙ ap Ok w.in-Nothing.is)) refl
           (kept h.pairs refl w.standards-is w.listed-is) (kept h.detailed refl w.timings-is w.timed-is)
           (kept h.white refl w.points-is w.pointed-is) (kept h.described refl w.entries-is w.entered-is)
-      | in-Timing w ↦ one_more h (is ∙ ap (of_slot _) w.in-Timing.is) refl
+      | in-Timing w ↦ one_more h (is ∙ ap (of_slot _) (c.in-Ok.is ∙ ap Ok w.in-Timing.is)) refl
           (kept h.pairs refl w.standards-is w.listed-is) (took h.detailed refl (omega arith) w.timings-is w.timed-is)
           (kept h.white refl w.points-is w.pointed-is) (kept h.described refl w.entries-is w.entered-is)
-      | in-Pairs+else-loop-k-2-test w ↦ let all : w.loop-k-2.k ≡ 6 = omega arith in one_more h (is ∙ ap (of_slot _) w.in-Pairs.is) refl
+      | in-Pairs+else-loop-k-2-test w ↦ let all : w.loop-k-2.k ≡ 6 = omega arith in one_more h (is ∙ ap (of_slot _) (c.in-Ok.is ∙ ap Ok w.in-Pairs.is)) refl
           (renamed (rw (all, add-sub_cancel_left) at w.loop-k-2.invariant.2) w.standards-is w.listed-is) (kept h.detailed refl w.timings-is w.timed-is)
           (kept h.white refl w.points-is w.pointed-is) (kept h.described refl w.entries-is w.entered-is)
-      | in-Points+in-None w ↦ one_more h (is ∙ ap (of_slot _) (w.in-Points.is ∙ ap Slot.Points w.in-None.is)) refl
+      | in-Points+in-None w ↦ one_more h (is ∙ ap (of_slot _) (c.in-Ok.is ∙ ap Ok (w.in-Points.is ∙ ap Slot.Points w.in-None.is))) refl
           (kept h.pairs refl w.standards-is w.listed-is) (kept h.detailed refl w.timings-is w.timed-is)
           (kept h.white refl w.points-is w.pointed-is) (kept h.described refl w.entries-is w.entered-is)
-      | in-Points+in-One w ↦ one_more h (is ∙ ap (of_slot _) (w.in-Points.is ∙ ap Slot.Points w.in-One.is)) refl
+      | in-Points+in-One w ↦ one_more h (is ∙ ap (of_slot _) (c.in-Ok.is ∙ ap Ok (w.in-Points.is ∙ ap Slot.Points w.in-One.is))) refl
           (kept h.pairs refl w.standards-is w.listed-is) (kept h.detailed refl w.timings-is w.timed-is)
           (took h.white refl (omega arith) w.points-is w.pointed-is) (kept h.described refl w.entries-is w.entered-is)
-      | in-Points+in-Two w ↦ one_more h (is ∙ ap (of_slot _) (w.in-Points.is ∙ ap Slot.Points w.in-Two.is)) refl
+      | in-Points+in-Two w ↦ one_more h (is ∙ ap (of_slot _) (c.in-Ok.is ∙ ap Ok (w.in-Points.is ∙ ap Slot.Points w.in-Two.is))) refl
           (kept h.pairs refl w.standards-is w.listed-is) (kept h.detailed refl w.timings-is w.timed-is)
           (took_two h.white refl (omega arith) w.points-is w.pointed-is) (kept h.described refl w.entries-is w.entered-is)
-      | in-Described w ↦ one_more h (is ∙ ap (of_slot _) w.in-Described.is) refl
+      | in-Described w ↦ one_more h (is ∙ ap (of_slot _) (c.in-Ok.is ∙ ap Ok w.in-Described.is)) refl
           (kept h.pairs refl w.standards-is w.listed-is) (kept h.detailed refl w.timings-is w.timed-is)
           (kept h.white refl w.points-is w.pointed-is) (took h.described refl (omega arith) w.entries-is w.entered-is)
     ]

@@ -14,21 +14,12 @@ use Rattle.standard_reading.proofs.read_slots.Given as goal
 abbrev pub invariant-loop-k : goal.invariant-loop-k
 invariant-loop-k l = (l.k ≤ 8) × (l.listed ≤ l.k) × Holds 26 blank_standard (map (held_pair.wrap 0) (pairs_at (structure_in l.s) l.s 38 l.k)) l.standards l.listed
 
-abbrev pub decreases-loop-k : goal.decreases-loop-k
-decreases-loop-k l = 8 - l.k
-
 -- the pairs of an fa slot, behind those that are listed before
 abbrev pub invariant-loop-k-2 : goal.invariant-loop-k-2
 invariant-loop-k-2 l =
     (l.k ≤ 6) × (l.listed ≤ 8 + (l.i - 1) * 6 + l.k) × Holds 26 blank_standard (pairs_of l.s l.i ++ map (held_pair.wrap (l.i + 1)) (pairs_at (structure_in l.s) l.t 5 l.k)) l.standards l.listed
 
-abbrev pub decreases-loop-k-2 : goal.decreases-loop-k-2
-decreases-loop-k-2 l = 6 - l.k
-
 -- the slots
 abbrev pub invariant-loop-i : goal.invariant-loop-i
 invariant-loop-i l =
     (l.i ≤ 4) × Bounds l.i l.listed l.timed l.pointed l.entered × Gathered l.s l.i l.standards l.listed l.timings l.timed l.points l.pointed l.entries l.entered
-
-abbrev pub decreases-loop-i : goal.decreases-loop-i
-decreases-loop-i l = 4 - l.i
