@@ -23,7 +23,7 @@ pub data Row (more : ℕ → Bool) (behind : ℕ → ℕ) : ℕ → List ℕ →
 
 -- ---- laws
 
-pub clash : {A : Type 0} {f : Refusal} → (Ok tt) ≡ Err f → A
+pub clash : {A : Type 0} {f : Refusal} → ◌≡◌ {A = Verdict} (Ok tt) (Err f) → A
 clash e = let z : ◌≡◌ {A = ℕ} 0 1 = cc in absurd (omega arith)
 
 pub first_append : (judge : ℕ → Verdict) (ps qs : List ℕ) → first judge ps ≡ Ok tt → first judge (ps ++ qs) ≡ first judge qs

@@ -2,7 +2,7 @@
 // after timing, 6; each of them is looked at once.
 #![tactic(auto)]
 
-ghost use Rattle.std.specs.Prelude.{◌+◌, ◌≤◌, ◌≡◌, List, ◌++◌, length};
+ghost use Rattle.std.specs.Prelude.{◌+◌, ◌≤◌, ◌≡◌, List, ◌++◌, length, Ok, Err};
 ghost use Rattle.fixed.specs.Gather.{Holds};
 ghost use Rattle.cta_record.specs.Filler.{blank};
 ghost use Rattle.cta_reading.specs.Cta.{is_offset, is_timing, before_blocks, cta_of};
@@ -13,7 +13,6 @@ use cta_record::{
     BLANK_BLOCK, Cta, CtaReading, CtaTimings, DataBlock, DataBlocks, VideoDescriptors,
 };
 use standard_record::{BLANK_TIMING, Verdict};
-use standard_timing::Timed;
 use steps::{Refusal, Span};
 
 fn refuse(f: Refusal) -> CtaReading
@@ -33,22 +32,14 @@ fn is_offset(d: u8) -> bool
     d == 0 || (4 <= d && d <= 127)
 }
 
+#[tactic(auto, unfolding(crate::specs::Cta::before_blocks))]
 fn before_blocks(s: &[u8]) -> Verdict
     ensures { result ≡ before_blocks s.now }
 {
-    if s.len() != 128 {
-        return standard_verdict::refused_at(7, 0);
-    }
-    if !sums::sum_is_zero(s) {
-        return standard_verdict::refused_at(8, 127);
-    }
-    if s[0] != 0x02 {
-        return standard_verdict::refused_at(12, 0);
-    }
-    if !is_offset(s[2]) {
-        return standard_verdict::refused_at(13, 2);
-    }
-    Ok(())
+    standard_verdict::must(s.len() == 128, 7, 0)?;
+    standard_verdict::must(sums::sum_is_zero(s), 8, 127)?;
+    standard_verdict::must(s[0] == 0x02, 12, 0)?;
+    standard_verdict::must(is_offset(s[2]), 13, 2)
 }
 
 // ---- timings
@@ -56,10 +47,7 @@ fn before_blocks(s: &[u8]) -> Verdict
 fn is_timing(s: &[u8], p: usize) -> bool
     ensures { result ≡ is_timing s.now p }
 {
-    if p > 109 {
-        return false;
-    }
-    standard_timing::clock_in(bits::part(s, p, 18)) != 0
+    p <= 109 && standard_timing::clock_in(bits::part(s, p, 18)) != 0
 }
 
 // Where the timings begin; with no offset at byte 127, where none has room.
@@ -80,8 +68,8 @@ fn read_timings(s: &[u8], video: VideoDescriptors, blocks: DataBlocks) -> CtaRea
     let mut p = first_timing(offset);
     while is_timing(s, p) {
         match standard_timing::timing_in(bits::part(s, p, 18)) {
-            Timed::Over => return refuse(Refusal { number: 6, at: p }),
-            Timed::Is(timing) => {
+            None => return refuse(Refusal { number: 6, at: p }),
+            Some(timing) => {
                 timings[timed] = timing;
                 timed += 1;
             }
@@ -111,10 +99,8 @@ fn append(video: &mut [u8; 119], n: usize, run: &[u8]) -> usize
     requires { n + length run.now ≤ 119 }
     ensures { (xs : List _) → Holds 119 0 xs video.old n → Holds 119 0 (xs ++ run.now) video.new result }
 {
-    let mut i = 0;
-    while i < run.len() {
+    for i in 0..run.len() {
         video[n + i] = run[i];
-        i += 1;
     }
     n + run.len()
 }

@@ -23,7 +23,7 @@ pub fn refused_at(number: u8, at: usize) -> Verdict
 }
 
 // Refused where the test fails.
-fn must(holds: bool, number: u8, at: usize) -> Verdict
+pub fn must(holds: bool, number: u8, at: usize) -> Verdict
     ensures { result ≡ must holds number at }
 {
     if holds {

@@ -1,5 +1,5 @@
 -- `cta_reading::append` meets its contract. The invariant: behind what was held, the first i bytes of the run are. Assumes nothing.
-use Prim.Native.Nat.{ℕ, ◌+◌, ◌-◌, ◌≤◌}
+use Prim.Native.Nat.{ℕ, ◌+◌, ◌≤◌}
 use mathlib.Core.List.{List, ◌++◌}
 use lib.ListN.{length, take}
 use Rattle.fixed.specs.Gather.{Holds}
@@ -7,6 +7,3 @@ use Rattle.cta_reading.proofs.append.Given as goal
 
 abbrev pub invariant-loop-i : goal.invariant-loop-i
 invariant-loop-i l = (l.i ≤ length l.run) × ((xs : List ℕ) → Holds 119 0 xs l.initial.video l.n → Holds 119 0 (xs ++ take l.i l.run) l.video (l.n + l.i))
-
-abbrev pub decreases-loop-i : goal.decreases-loop-i
-decreases-loop-i l = length l.run - l.i

@@ -25,7 +25,7 @@ pub returns-then-end-offset : goal.returns-then-end-offset
 unfolding cta_of
 returns-then-end-offset c =
     let s : List ℕ = c.args.s.now in
-    let before : before_blocks (s) ≡ (Ok tt) = c.requires.1 in
+    let before : before_blocks (s) ≡ Ok tt = c.requires.1 in
     let p : ℕ = c.loop-p.p in
     let w : Blocks (s) c.loop-p.video c.loop-p.shown c.loop-p.blocks c.loop-p.listed (p) = c.loop-p.invariant.3 in
     let length_is : length_at (s) (p) ≡ c.digits-len.result = sym c.digits-len.ensures in
@@ -38,14 +38,14 @@ append-shown-requires c =
     let tag_is : tag_at (s) (p) ≡ c.digits-tag.result = sym c.digits-tag.ensures in
     let length_is : length_at (s) (p) ≡ c.digits-len.result = sym c.digits-len.ensures in
     let shows : c.digits-tag.result ≡ 2 → part (s) ((p) + 1) ((p) + 1 + c.digits-len.result - ((p) + 1)) ≡ video_at (s) (p) = (λ e. rw (add-sub_cancel_left, (tag_is), eq-eqb _ _ e, (length_is))) in
-    let before : before_blocks (s) ≡ (Ok tt) = c.requires.1 in
+    let before : before_blocks (s) ≡ Ok tt = c.requires.1 in
     let w : Blocks (s) c.loop-p.video c.loop-p.shown c.loop-p.blocks c.loop-p.listed (p) = c.loop-p.invariant.3 in
     rw (shows c.if-tag-eq2.true) (video_fits (before) (w) (c.loop-p-test.true) (omega (arith, length_is)))
 
 pub bounds-blocks-listed : goal.bounds-blocks-listed
 bounds-blocks-listed c =
     let s : List ℕ = c.args.s.now in
-    let before : before_blocks (s) ≡ (Ok tt) = c.requires.1 in
+    let before : before_blocks (s) ≡ Ok tt = c.requires.1 in
     let p : ℕ = c.loop-p.p in
     let w : Blocks (s) c.loop-p.video c.loop-p.shown c.loop-p.blocks c.loop-p.listed (p) = c.loop-p.invariant.3 in
     block_room (before) (w) (c.loop-p-test.true)
@@ -55,7 +55,7 @@ loop-p-preserved-then-tag-eq2 c =
     let s : List ℕ = c.args.s.now in
     let p : ℕ = c.loop-p.p in
     let length_is : length_at (s) (p) ≡ c.digits-len.result = sym c.digits-len.ensures in
-    let before : before_blocks (s) ≡ (Ok tt) = c.requires.1 in
+    let before : before_blocks (s) ≡ Ok tt = c.requires.1 in
     let w : Blocks (s) c.loop-p.video c.loop-p.shown c.loop-p.blocks c.loop-p.listed (p) = c.loop-p.invariant.3 in
     let tag_is : tag_at (s) (p) ≡ c.digits-tag.result = sym c.digits-tag.ensures in
     let shows : c.digits-tag.result ≡ 2 → part (s) ((p) + 1) ((p) + 1 + c.digits-len.result - ((p) + 1)) ≡ video_at (s) (p) = (λ e. rw (add-sub_cancel_left, (tag_is), eq-eqb _ _ e, (length_is))) in
@@ -72,7 +72,7 @@ loop-p-preserved-then-tag-eq2 c =
 pub loop-p-preserved : goal.loop-p-preserved
 loop-p-preserved c =
     let s : List ℕ = c.args.s.now in
-    let before : before_blocks (s) ≡ (Ok tt) = c.requires.1 in
+    let before : before_blocks (s) ≡ Ok tt = c.requires.1 in
     let p : ℕ = c.loop-p.p in
     let w : Blocks (s) c.loop-p.video c.loop-p.shown c.loop-p.blocks c.loop-p.listed (p) = c.loop-p.invariant.3 in
     let length_is : length_at (s) (p) ≡ c.digits-len.result = sym c.digits-len.ensures in

@@ -44,20 +44,20 @@ returns c =
     let all = timings_are given.before c.loop-video.invariant.1 c.loop-video.invariant.0 (sym c.is_timing.ensures ∙ c.loop-video-test.false) in
     rw (given.before, given.fair, given.video, given.blocks, all.fair, all.held.are, all.held.many)
 
-pub returns-in-Over : goal.returns-in-Over
+pub returns-in-None : goal.returns-in-None
 unfolding cta_of
-returns-in-Over c =
+returns-in-None c =
     let block : List ℕ = c.args.s.now in
     let on : is_timing (block) c.loop-video.p ≡ true = sym c.is_timing.ensures ∙ c.loop-video-test.true in
     let given = c.requires in
-    rw (c.refuse.ensures, given.before, given.fair, timing_over given.before c.loop-video.invariant.1 (on) (ap timing_in (sym c.part.ensures) ∙ sym c.timing_in.ensures ∙ c.in-Over.is))
+    rw (c.refuse.ensures, given.before, given.fair, timing_over given.before c.loop-video.invariant.1 (on) (ap timing_in (sym c.part.ensures) ∙ sym c.timing_in.ensures ∙ c.in-None.is))
 
 pub loop-video-preserved : goal.loop-video-preserved
 loop-video-preserved c =
     let block : List ℕ = c.args.s.now in
     let on : is_timing (block) c.loop-video.p ≡ true = sym c.is_timing.ensures ∙ c.loop-video-test.true in
     let w = c.loop-video.invariant.1 in
-    (timing_ends _ _ (on), timing_more c.requires.before w (on) (ap timing_in (sym c.part.ensures) ∙ sym c.timing_in.ensures ∙ c.in-Is.is) (λ h. took w.held refl h refl refl))
+    (timing_ends _ _ (on), timing_more c.requires.before w (on) (ap timing_in (sym c.part.ensures) ∙ sym c.timing_in.ensures ∙ c.in-Some.is) (λ h. took w.held refl h refl refl))
 
 pub offset_bounds-timings-timed : goal.offset_bounds-timings-timed
 offset_bounds-timings-timed c =

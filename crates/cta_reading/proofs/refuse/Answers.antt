@@ -1,5 +1,0 @@
--- `cta_reading::refuse` meets its contract: by what its callee ensures. Assumes nothing.
-use Rattle.cta_reading.proofs.refuse.Goals as goal
-
-pub returns : goal.returns
-returns c = rw c.blank_cta.ensures
