@@ -1,4 +1,5 @@
 -- What the writer's turns come to. Assumes nothing.
+use Rattle.std.specs.Prelude.{Option}
 use Rattle.std.proofs.Common.{◌≡◌, ℕ, ◌+◌, ◌*◌, ◌%◌, ◌<◌, ◌≤◌, min, Bool, true, false, ◌&&◌, eqb, ltb, leb, List, [], ◌∷◌, ◌++◌, length, get_or, take, drop, set, sym, refl, ap, ◌∙◌, subst, ap₂, true≢false, append_assoc, append-nil, add-one, arith, length-drop, length-set, drop_of_length-le, length-take, take_all, drop-drop, take-suc-set, ltb-true, ne_eqb, eqb-true, le-leb, leb-false, leb-true}
 use borrow.Author.Tests.{eqb-false, lt-leb}
 use lib.Seq.{paste, length-paste, take-paste}
@@ -33,7 +34,6 @@ use Rattle.write_block.specs.Leaves.{pairs_slot, slot_pairs, slot_points}
 use Rattle.fixed.specs.Gather.{when}
 use Rattle.standard_record.specs.declared.HeldPair.{HeldPair}
 use Rattle.standard_record.specs.declared.HeldPoint.{HeldPoint}
-use Rattle.standard_parts.specs.declared.Point.{Point}
 use Rattle.standard_slots.specs.Said.{of_point}
 use Rattle.write_next.specs.Next.{own, two_of}
 use Rattle.write_next.specs.Laws.{own_is, two_ahead, none_ahead, some_ahead}
@@ -93,7 +93,7 @@ module _ (items : List HeldPair) (len k n : ℕ) (whole : length items ≡ 26) (
   no_pair e = none_ahead held_pair n 6 (drop k (take len items)) (first_pair false e)
 
 -- two points, by each of them
-pub points_are : (items : List HeldPoint) (len k n : ℕ) (whole : length items ≡ 6) (z : HeldPoint) (ps : List WhitePoint) (p q : Point)
+pub points_are : (items : List HeldPoint) (len k n : ℕ) (whole : length items ≡ 6) (z : HeldPoint) (ps : List WhitePoint) (p q : Option WhitePoint)
     → ps ≡ two_of (of_point p) (of_point q)
     → of_point p ≡ when (own k len 6 (get_or items (k % 6) z).slot n) (get_or items (k % 6) z).point
     → of_point q ≡ when (own (k + 1) len 6 (get_or items ((k + 1) % 6) z).slot n) (get_or items ((k + 1) % 6) z).point

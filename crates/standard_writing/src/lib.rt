@@ -22,10 +22,9 @@ ghost use Rattle.standard_writing.specs.Filled.{SlotsFit, FrontFit, Filled};
 ghost use Rattle.standard_writing.specs.Places.{ahead, Small, Turned, UsedUp, many};
 
 use standard_parts::Structure;
-use standard_record::{DetailedTiming, StandardRecord, StandardTimings};
+use standard_record::{Descriptor, DetailedTiming, StandardRecord, StandardTimings};
 use standard_slots::Points;
-use write_leaf::SlotBytes;
-use write_next::{NextDescriptor, NextTiming};
+use write_leaf::Leaf;
 use write_pairs::PairsBytes;
 
 // How many entries of each list are used up.
@@ -40,7 +39,7 @@ pub struct Place {
 // The bytes of a slot, and where the lists stand behind it.
 #[derive(Drop)]
 struct Turn {
-    slot: SlotBytes,
+    slot: Leaf<18>,
     after: Place,
 }
 
@@ -63,7 +62,7 @@ fn many(ps: Points) -> usize
     }
 }
 
-fn turn_of(slot: SlotBytes, timed: usize, listed: usize, pointed: usize, entered: usize) -> Turn
+fn turn_of(slot: Leaf<18>, timed: usize, listed: usize, pointed: usize, entered: usize) -> Turn
     ensures { result ≡ record { slot = slot; after = record { timed = timed; listed = listed; pointed = pointed; entered = entered } } }
 {
     Turn {
@@ -105,7 +104,7 @@ fn pairs_turn(six: PairsBytes, at: Place) -> Turn
 }
 
 // White points, a descriptor or nothing.
-fn other_turn(structure: Structure, ps: Points, d: NextDescriptor, lent: &[u8], at: Place) -> Turn
+fn other_turn(structure: Structure, ps: Points, d: Option<Descriptor>, lent: &[u8], at: Place) -> Turn
     requires { Small at }
     ensures { Turned structure lent.now at result.after result.slot.fits result.slot.bytes (first [] [] (of_points ps) (of_descriptor d)) }
 {
@@ -124,14 +123,14 @@ fn other_turn(structure: Structure, ps: Points, d: NextDescriptor, lent: &[u8], 
         );
     }
     match d {
-        NextDescriptor::Is(x) => turn_of(
+        Some(x) => turn_of(
             write_slots::descriptor_bytes(structure, x, lent),
             timed,
             listed,
             pointed,
             entered + 1,
         ),
-        NextDescriptor::None => turn_of(
+        None => turn_of(
             write_slots::points_bytes(Points::None),
             timed,
             listed,
@@ -192,8 +191,8 @@ fn timing_first(r: StandardRecord) -> bool
 {
     let items = r.timings.detailed.items;
     match write_next::next_timing(items[0], 0, r.timings.detailed.len, 1) {
-        NextTiming::None => false,
-        NextTiming::Is(_) => true,
+        None => false,
+        Some(_) => true,
     }
 }
 
@@ -233,8 +232,8 @@ fn fill_slots(
             r.timings.detailed.len,
             n,
         ) {
-            NextTiming::Is(d) => timing_turn(d, at),
-            NextTiming::None => {
+            Some(d) => timing_turn(d, at),
+            None => {
                 if write_next::pair_ahead(pairs[listed % 26], listed, r.timings.standard.len, n) {
                     let list = StandardTimings {
                         items: pairs,

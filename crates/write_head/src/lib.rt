@@ -15,13 +15,7 @@ use standard_record::{
     Chromaticities, Chromaticity, Depth, Display, DisplayType, Features, ImageSize, Kind, Maker,
     Product, Ratio, VideoInput, Week,
 };
-use write_leaf::{OneByte, TwoBytes};
-
-#[derive(Drop)]
-pub struct FrontBytes {
-    pub fits: bool,
-    pub bytes: [u8; 38],
-}
+use write_leaf::{Leaf, OneByte, TwoBytes};
 
 // Code, serial number, week and year.
 #[derive(Clone, Copy)]
@@ -401,7 +395,7 @@ pub fn front_bytes(
     display: Display,
     basic: Chromaticities,
     established: EstablishedTimings,
-) -> FrontBytes
+) -> Leaf<38>
     ensures { WritesFront (record { product = product; version = version; display = display; basic = basic; established = take established.len established.items }) result.fits result.bytes }
 {
     let structure = standard_parts::structure_of(version.revision);
@@ -467,5 +461,5 @@ pub fn front_bytes(
         flags.b36,
         flags.b37,
     ];
-    FrontBytes { fits, bytes }
+    Leaf { fits, bytes }
 }

@@ -1,4 +1,5 @@
 // What the writer's leaves have in common. A leaf answers with the bytes of a value and with `fits`: whether any bytes at all are read as it.
+// An Option would promise less: the clause `made` of `Writes` says which bytes they are also where `fits` is false.
 #![tactic(auto)]
 
 ghost use Rattle.std.specs.Prelude.{◌≡◌, ◌&&◌, ◌≤◌};
@@ -17,11 +18,11 @@ pub struct TwoBytes {
     pub second: u8,
 }
 
-// The 18 bytes of a slot.
+// N bytes, as the 18 of a slot.
 #[derive(Drop)]
-pub struct SlotBytes {
+pub struct Leaf<const N: usize> {
     pub fits: bool,
-    pub bytes: [u8; 18],
+    pub bytes: [u8; N],
 }
 
 // 1 where the test holds: a sum of digits counts how many do, in the place of a chain of branches.
@@ -34,5 +35,5 @@ pub fn digit(b: bool) -> u8
 pub fn both(a: bool, b: bool) -> bool
     ensures { result ≡ (a && b) }
 {
-    if a { b } else { false }
+    a && b
 }

@@ -1,17 +1,15 @@
 -- What the answers of `write_next` say: no entry, or the next one.
-use Rattle.std.specs.Prelude.{ℕ, min, Bool, ◌&&◌, List, [], ◌∷◌, eqb, ltb}
+use Rattle.std.specs.Prelude.{ℕ, min, Bool, ◌&&◌, List, [], ◌∷◌, eqb, ltb, Option, Some, None}
 use Rattle.standard_record.specs.declared.DetailedTiming.{DetailedTiming}
 use Rattle.standard_record.specs.declared.Descriptor.{Descriptor}
-use Rattle.write_next.specs.declared.NextTiming.{NextTiming}
-use Rattle.write_next.specs.declared.NextDescriptor.{NextDescriptor}
 
-abbrev pub of_timing : NextTiming → List DetailedTiming
-of_timing NextTiming.None = []
-of_timing (NextTiming.Is d) = d ∷ []
+abbrev pub of_timing : Option DetailedTiming → List DetailedTiming
+of_timing None = []
+of_timing (Some d) = d ∷ []
 
-abbrev pub of_descriptor : NextDescriptor → List Descriptor
-of_descriptor NextDescriptor.None = []
-of_descriptor (NextDescriptor.Is d) = d ∷ []
+abbrev pub of_descriptor : Option Descriptor → List Descriptor
+of_descriptor None = []
+of_descriptor (Some d) = d ∷ []
 
 -- the place k is in a list of that length and size, and the entry there, of this slot, has the number n
 abbrev pub own : ℕ → ℕ → ℕ → ℕ → ℕ → Bool

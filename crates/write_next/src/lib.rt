@@ -7,43 +7,25 @@ ghost use Rattle.standard_slots.specs.Said.{of_point};
 ghost use Rattle.standard_slots.specs.Answers.{of_points};
 ghost use Rattle.write_next.specs.Next.{of_timing, of_descriptor, own, two_of};
 
-use standard_parts::Point;
-use standard_record::{Descriptor, DetailedTiming, Held, HeldPair, HeldPoint, HeldTiming};
+use standard_record::{
+    Descriptor, DetailedTiming, Held, HeldPair, HeldPoint, HeldTiming, WhitePoint,
+};
 use standard_slots::Points;
-
-#[derive(Clone, Copy)]
-pub enum NextTiming {
-    None,
-    Is(DetailedTiming),
-}
-
-#[derive(Clone, Copy)]
-pub enum NextDescriptor {
-    None,
-    Is(Descriptor),
-}
 
 // Whether the place k is in a list of that length and size, and the entry there has the number n.
 fn own(k: usize, len: usize, size: usize, slot: u16, n: u16) -> bool
     ensures { result ≡ own k len size slot n }
 {
-    if k >= len {
-        return false;
-    }
-    if k >= size {
-        return false;
-    }
-    slot == n
+    k < len.min(size) && slot == n
 }
 
-pub fn next_timing(h: HeldTiming, k: usize, len: usize, n: u16) -> NextTiming
+pub fn next_timing(h: HeldTiming, k: usize, len: usize, n: u16) -> Option<DetailedTiming>
     ensures { of_timing result ≡ when (own k len 4 h.slot n) h.timing }
 {
     if own(k, len, 4, h.slot, n) {
-        let d = h.timing;
-        NextTiming::Is(d)
+        Some(h.timing)
     } else {
-        NextTiming::None
+        None
     }
 }
 
@@ -53,37 +35,33 @@ pub fn pair_ahead(h: HeldPair, k: usize, len: usize, n: u16) -> bool
     own(k, len, 26, h.slot, n)
 }
 
-pub fn next_point(h: HeldPoint, k: usize, len: usize, n: u16) -> Point
+pub fn next_point(h: HeldPoint, k: usize, len: usize, n: u16) -> Option<WhitePoint>
     ensures { of_point result ≡ when (own k len 6 h.slot n) h.point }
 {
     if own(k, len, 6, h.slot, n) {
-        let p = h.point;
-        Point::Listed(p)
+        Some(h.point)
     } else {
-        Point::Skipped
+        None
     }
 }
 
 // The second only behind the first.
-pub fn two_points(p: Point, q: Point) -> Points
+pub fn two_points(p: Option<WhitePoint>, q: Option<WhitePoint>) -> Points
     ensures { of_points result ≡ two_of (of_point p) (of_point q) }
 {
-    match p {
-        Point::Skipped => Points::None,
-        Point::Listed(a) => match q {
-            Point::Skipped => Points::One(a),
-            Point::Listed(b) => Points::Two(a, b),
-        },
+    match (p, q) {
+        (None, _) => Points::None,
+        (Some(a), None) => Points::One(a),
+        (Some(a), Some(b)) => Points::Two(a, b),
     }
 }
 
-pub fn next_descriptor(h: Held, k: usize, len: usize, n: u16) -> NextDescriptor
+pub fn next_descriptor(h: Held, k: usize, len: usize, n: u16) -> Option<Descriptor>
     ensures { of_descriptor result ≡ when (own k len 3 h.slot n) h.descriptor }
 {
     if own(k, len, 3, h.slot, n) {
-        let d = h.descriptor;
-        NextDescriptor::Is(d)
+        Some(h.descriptor)
     } else {
-        NextDescriptor::None
+        None
     }
 }

@@ -1,12 +1,10 @@
 -- Laws: packed pairs are read as the list, what is read has bytes, and one answer fits.
-use Rattle.std.specs.Prelude.{ℕ, zero, suc, ◌+◌, ◌*◌, ◌<◌, ◌≤◌, ◌≡◌, refl, Bool, true, false, List, [], ◌∷◌, ◌++◌, length}
+use Rattle.std.specs.Prelude.{ℕ, zero, suc, ◌+◌, ◌*◌, ◌<◌, ◌≤◌, ◌≡◌, refl, Bool, true, false, List, [], ◌∷◌, ◌++◌, length, None, Option, Some}
 use Rattle.std.proofs.Common.{sym, ap, ap₂, ◌∙◌, append_assoc, append-nil, arith}
 use Rattle.fixed.specs.Gather.{gather}
 use Rattle.standard_record.specs.declared.StandardTiming.{StandardTiming}
 use Rattle.standard_parts.specs.Timings.{pair_of}
 use Rattle.standard_parts.specs.declared.Structure.{Structure}
-use Rattle.standard_parts.specs.declared.Pair.{Pair}
-use Rattle.standard_parts.specs.declared.Pair.TheVariants.{Listed, Skipped}
 use Rattle.standard_slots.specs.Said.{of_pair, pair_at, pairs_at}
 use Rattle.write_leaf.specs.Bytes.{Bytes}
 use Rattle.write_parts.specs.Pair.{pair_low, pair_high}
@@ -36,7 +34,7 @@ pairs_first σ a b s n =
         let f : suc (suc (0 + 2 * i)) + 1 ≡ suc (suc (0 + 2 * i + 1)) = omega arith in
         rw (e, f)
 
-skipped : (σ : Structure) → pair_of σ 1 1 ≡ Skipped
+skipped : (σ : Structure) → pair_of σ 1 1 ≡ None
 unfolding pair_of
 skipped σ = refl
 
@@ -54,9 +52,9 @@ pub all_append : {A : Type 0} (P : A → Type 0) (xs ys : List A) → All P xs �
 all_append P [] ys h k = k
 all_append P (x ∷ xs) ys h k = (h.0, all_append P xs ys h.1 k)
 
-one_read : (σ : Structure) (a b : ℕ) → a < 256 → b < 256 → (p : Pair) → pair_of σ a b ≡ p → All (ReadFrom σ) (of_pair p)
-one_read σ a b ha hb (Listed p) e = (record { first = a; second = b; first_is_byte = ha; second_is_byte = hb; read = e }, tt)
-one_read σ a b ha hb Skipped e = tt
+one_read : (σ : Structure) (a b : ℕ) → a < 256 → b < 256 → (p : Option StandardTiming) → pair_of σ a b ≡ p → All (ReadFrom σ) (of_pair p)
+one_read σ a b ha hb (Some p) e = (record { first = a; second = b; first_is_byte = ha; second_is_byte = hb; read = e }, tt)
+one_read σ a b ha hb None e = tt
 
 pub all_read : (σ : Structure) (s : List ℕ) → Bytes s → (k n : ℕ) → All (ReadFrom σ) (pairs_at σ s k n)
 all_read σ s h k zero = tt

@@ -1,11 +1,10 @@
 -- The bytes of some pairs, from a record's list.
-use Rattle.std.specs.Prelude.{ℕ, zero, suc, ◌<◌, ◌≡◌, Bool, true, cond, List, [], ◌∷◌, eqb, length, take, drop}
+use Rattle.std.specs.Prelude.{ℕ, zero, suc, ◌<◌, ◌≡◌, Bool, true, cond, List, [], ◌∷◌, eqb, length, take, drop, Some}
 use Rattle.standard_record.specs.Held.{held_pair}
 use Rattle.standard_record.specs.declared.StandardTiming.{StandardTiming}
 use Rattle.standard_record.specs.declared.StandardTimings.{StandardTimings}
 use Rattle.standard_parts.specs.Timings.{pair_of}
 use Rattle.standard_parts.specs.declared.Structure.{Structure}
-use Rattle.standard_parts.specs.declared.Pair.TheVariants.{Listed}
 use Rattle.write_parts.specs.Pair.{pair_low, pair_high}
 use Rattle.write_pairs.specs.Run.{run}
 
@@ -36,11 +35,11 @@ pub record ReadFrom (σ : Structure) (p : StandardTiming) : Type 0 where
   pub second : ℕ
   pub first_is_byte : first < 256
   pub second_is_byte : second < 256
-  pub read : pair_of σ first second ≡ Listed p
+  pub read : pair_of σ first second ≡ Some p
 
 -- the pair is read from its own bytes
 abbrev pub Back : Structure → StandardTiming → Type 0
-Back σ p = pair_of σ (pair_low p) (pair_high p) ≡ Listed p
+Back σ p = pair_of σ (pair_low p) (pair_high p) ≡ Some p
 
 pub record WritesPairs (σ : Structure) (ps : List StandardTiming) (fits : Bool) (bytes : List ℕ) (many : ℕ) : Type 0 where
   pub made : bytes ≡ pairs_bytes 8 ps

@@ -30,12 +30,6 @@ fn most(number: u16) -> usize
     if number == 0 { 8 } else { 6 }
 }
 
-fn least(n: usize) -> usize
-    ensures { result ≡ min n 26 }
-{
-    if n < 26 { n } else { 26 }
-}
-
 // The bytes of an entry, and whether it has another number.
 fn held_bytes(structure: Structure, held: HeldPair, number: u16) -> HeldBytes
     ensures { (result.other ≡ not (eqb held.slot number)) × WritesPair structure held.pair result.fits (result.first, result.second) }
@@ -59,7 +53,7 @@ pub fn pairs_bytes(
     ensures { WritesPairs structure (pairs_ahead list from number) result.fits result.bytes result.many }
 {
     let items = list.items;
-    let end = least(list.len);
+    let end = list.len.min(26);
     let limit = most(number);
     let mut fits = true;
     let mut bytes = [1u8; 16];
@@ -75,7 +69,7 @@ pub fn pairs_bytes(
         }
         bytes[2 * many] = w.first;
         bytes[2 * many + 1] = w.second;
-        fits = write_leaf::both(fits, w.fits);
+        fits &= w.fits;
         many += 1;
         k += 1;
     }

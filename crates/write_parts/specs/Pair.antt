@@ -1,11 +1,10 @@
 -- The two bytes of a standard timing. 01 01 is read as none, so what it would stand for is not written. They are the same for every structure σ,
 -- but not what they are read as.
-use Rattle.std.specs.Prelude.{ℕ, ◌+◌, ◌*◌, ◌/◌, ◌%◌, ◌≡◌, Bool, false, eqb}
+use Rattle.std.specs.Prelude.{ℕ, ◌+◌, ◌*◌, ◌/◌, ◌%◌, ◌≡◌, Bool, false, eqb, None, Option, Some}
 use Rattle.standard_record.specs.declared.Ratio.{Ratio}
 use Rattle.standard_record.specs.declared.StandardTiming.{StandardTiming}
 use Rattle.standard_parts.specs.Timings.{pair_of}
 use Rattle.standard_parts.specs.declared.Structure.{Structure}
-use Rattle.standard_parts.specs.declared.Pair.{Pair}
 use Rattle.write_leaf.specs.Bytes.{digit}
 use Rattle.write_leaf.specs.Leaf.{Writes, Two, BothBytes}
 
@@ -27,7 +26,7 @@ pair_bytes v = (pair_low v, pair_high v)
 
 -- two bytes that are read as v
 abbrev pub ReadsPair : Structure → Two → StandardTiming → Type 0
-ReadsPair σ s v = pair_of σ s.0 s.1 ≡ Pair.Listed v
+ReadsPair σ s v = pair_of σ s.0 s.1 ≡ Some v
 
 abbrev pub WritesPair : Structure → StandardTiming → Bool → Two → Type 0
 WritesPair σ = Writes BothBytes (ReadsPair σ) pair_bytes
@@ -38,6 +37,6 @@ abbrev pub same_timing : StandardTiming → StandardTiming → Bool
 same_timing w v =
     eqb (digit (eqb w.width v.width) + digit (eqb w.ratio.width v.ratio.width) + digit (eqb w.ratio.height v.ratio.height) + digit (eqb w.rate v.rate)) 4
 
-abbrev pub same_pair : Pair → StandardTiming → Bool
-same_pair Pair.Skipped v = false
-same_pair (Pair.Listed w) v = same_timing w v
+abbrev pub same_pair : Option StandardTiming → StandardTiming → Bool
+same_pair None v = false
+same_pair (Some w) v = same_timing w v

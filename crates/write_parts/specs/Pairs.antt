@@ -1,12 +1,11 @@
 -- Laws: a standard timing's bytes are those that it was read from.
-use Rattle.std.specs.Prelude.{ℕ, zero, suc, ◌+◌, ◌*◌, ◌<◌, ◌≡◌, refl, Bool, true, false, ◌&&◌, cond, eqb}
+use Rattle.std.specs.Prelude.{ℕ, zero, suc, ◌+◌, ◌*◌, ◌<◌, ◌≡◌, refl, Bool, true, false, ◌&&◌, cond, eqb, None, Option, Some}
 use Rattle.std.proofs.Common.{ap, arith, eqb-true}
 use Rattle.bits.specs.Fields.{digits}
 use Rattle.standard_record.specs.declared.StandardTiming.{StandardTiming}
 use Rattle.standard_parts.specs.Timings.{ratio_of, pair_of}
 use Rattle.standard_parts.specs.declared.Structure.{Structure}
 use Rattle.standard_parts.specs.declared.Structure.TheVariants.{Below3, From3, From4}
-use Rattle.standard_parts.specs.declared.Pair.{Pair}
 use Rattle.write_leaf.specs.Digits.{four_hold, agrees}
 use Rattle.write_parts.specs.Pair.{ratio_code, pair_low, pair_high, WritesPair, same_timing, same_pair}
 
@@ -36,7 +35,7 @@ code_back σ (suc (suc zero)) h = refl
 code_back σ (suc (suc (suc zero))) h = refl
 code_back σ (suc (suc (suc (suc c)))) h = absurd (omega arith)
 
-listed : (z : Bool) (w v : StandardTiming) → cond z Pair.Skipped (Pair.Listed w) ≡ Pair.Listed v → w ≡ v
+listed : (z : Bool) (w v : StandardTiming) → cond z None (Some w) ≡ Some v → w ≡ v
 listed true w v h = cc
 listed false w v h = cc
 
@@ -44,17 +43,17 @@ listed false w v h = cc
 abbrev made : Structure → ℕ → ℕ → StandardTiming
 made σ a b = record { width = (a + 31) * 8; ratio = ratio_of σ (digits b 6 2); rate = digits b 0 6 + 60 }
 
-is_made : (σ : Structure) (a b : ℕ) (v : StandardTiming) → pair_of σ a b ≡ Pair.Listed v → made σ a b ≡ v
+is_made : (σ : Structure) (a b : ℕ) (v : StandardTiming) → pair_of σ a b ≡ Some v → made σ a b ≡ v
 unfolding pair_of
 is_made σ a b v h = listed (eqb a 1 && eqb b 1) (made σ a b) v h
 
-bytes_back : (σ : Structure) (a b : ℕ) → a < 256 → b < 256 → (v : StandardTiming) → pair_of σ a b ≡ Pair.Listed v → (pair_low v ≡ a) × (pair_high v ≡ b)
+bytes_back : (σ : Structure) (a b : ℕ) → a < 256 → b < 256 → (v : StandardTiming) → pair_of σ a b ≡ Some v → (pair_low v ≡ a) × (pair_high v ≡ b)
 bytes_back σ a b ha hb v h =
     let e = is_made σ a b v h in
     (rw (← e) (omega arith), rw (← e) (rw (code_back σ (digits b 6 2) (omega arith)) (omega arith)))
 
 -- the ratio of a pair that is read is that of a code
-pub ratio_code_lem : (σ : Structure) (a b : ℕ) (v : StandardTiming) → pair_of σ a b ≡ Pair.Listed v → (code : ℕ) × (ratio_of σ code ≡ v.ratio)
+pub ratio_code_lem : (σ : Structure) (a b : ℕ) (v : StandardTiming) → pair_of σ a b ≡ Some v → (code : ℕ) × (ratio_of σ code ≡ v.ratio)
 ratio_code_lem σ a b v h = (digits b 6 2, ap (λ (w : StandardTiming). w.ratio) (is_made σ a b v h))
 
 pub writes_pair : (σ : Structure) (v : StandardTiming) → WritesPair σ v (same_pair (pair_of σ (pair_low v) (pair_high v)) v) (pair_low v, pair_high v)
@@ -66,6 +65,6 @@ writes_pair σ v = record {
       rw (e.0, e.1, h) (same_self v);
 }
   where
-    pair_is : (p : Pair) (v : StandardTiming) → same_pair p v ≡ true → p ≡ Pair.Listed v
-    pair_is Pair.Skipped v h = cc
-    pair_is (Pair.Listed w) v h = ap Pair.Listed (same_is w v h)
+    pair_is : (p : Option StandardTiming) (v : StandardTiming) → same_pair p v ≡ true → p ≡ Some v
+    pair_is None v h = cc
+    pair_is (Some w) v h = ap Some (same_is w v h)

@@ -3,7 +3,6 @@ use Rattle.std.specs.Prelude.{ℕ, ◌+◌, ◌*◌, ◌/◌, ◌%◌, ◌≡◌
 use Rattle.standard_record.specs.declared.WhitePoint.{WhitePoint}
 use Rattle.standard_parts.specs.Head.{gamma_of}
 use Rattle.standard_parts.specs.Color.{point_of}
-use Rattle.standard_parts.specs.declared.Point.TheVariants as Point
 use Rattle.bits.specs.Bytes.{◌!◌}
 use Rattle.write_leaf.specs.Bytes.{Bytes, digit, low}
 use Rattle.write_leaf.specs.Leaf.{Writes, WritesByte}
@@ -33,7 +32,7 @@ point_bytes p =
     p.index ∷ place_low p.place.x p.place.y ∷ low (p.place.x / 4) ∷ low (p.place.y / 4) ∷ gamma_byte p.gamma ∷ []
 
 abbrev pub ReadsPoint : List ℕ → WhitePoint → Type 0
-ReadsPoint t p = point_of (t ! 0) (t ! 1) (t ! 2) (t ! 3) (t ! 4) ≡ Point.Listed p
+ReadsPoint t p = point_of (t ! 0) (t ! 1) (t ! 2) (t ! 3) (t ! 4) ≡ Some p
 
 abbrev pub WritesPoint : WhitePoint → Bool → List ℕ → Type 0
 WritesPoint = Writes Bytes ReadsPoint point_bytes

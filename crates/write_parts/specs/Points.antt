@@ -7,7 +7,6 @@ use Rattle.bits.specs.Fields.{digits}
 use Rattle.standard_record.specs.declared.WhitePoint.{WhitePoint}
 use Rattle.standard_parts.specs.Head.{gamma_of}
 use Rattle.standard_parts.specs.Color.{chromaticity_of, point_of}
-use Rattle.standard_parts.specs.declared.Point.TheVariants as Point
 use Rattle.bits.specs.Bytes.{◌!◌}
 use Rattle.write_leaf.specs.Bytes.{Bytes, low}
 use Rattle.write_parts.specs.Point.{gamma_byte, gamma_fits, WritesGamma, place_low, point_bytes, ReadsPoint, WritesPoint, point_fits}
@@ -37,7 +36,7 @@ writes_gamma g = record {
 -- ---- the point
 
 -- a point that is listed has an index, and is what it was read from
-listed : (z : Bool) (w p : WhitePoint) → cond z Point.Skipped (Point.Listed w) ≡ Point.Listed p → (z ≡ false) × (w ≡ p)
+listed : (z : Bool) (w p : WhitePoint) → cond z None (Some w) ≡ Some p → (z ≡ false) × (w ≡ p)
 listed true w p h = (cc, cc)
 listed false w p h = (refl, cc)
 

@@ -6,21 +6,9 @@ ghost use Rattle.write_parts.specs.Pair.{ratio_code, same_timing, same_pair, Wri
 ghost use Rattle.write_parts.specs.Point.{WritesGamma, WritesPoint};
 ghost use Rattle.write_parts.specs.Text.{text_byte, WritesText};
 
-use standard_parts::{Pair, Structure};
+use standard_parts::Structure;
 use standard_record::{Ratio, StandardTiming, WhitePoint};
-use write_leaf::{OneByte, TwoBytes};
-
-#[derive(Drop)]
-pub struct PointBytes {
-    pub fits: bool,
-    pub bytes: [u8; 5],
-}
-
-#[derive(Drop)]
-pub struct TextBytes {
-    pub fits: bool,
-    pub bytes: [u8; 13],
-}
+use write_leaf::{Leaf, OneByte, TwoBytes};
 
 // ---- pairs
 
@@ -44,12 +32,12 @@ fn same_timing(w: StandardTiming, v: StandardTiming) -> bool
         == 4
 }
 
-fn same_pair(p: Pair, v: StandardTiming) -> bool
+fn same_pair(p: Option<StandardTiming>, v: StandardTiming) -> bool
     ensures { result ≡ same_pair p v }
 {
     match p {
-        Pair::Skipped => false,
-        Pair::Listed(w) => same_timing(w, v),
+        None => false,
+        Some(w) => same_timing(w, v),
     }
 }
 
@@ -85,7 +73,7 @@ pub fn gamma_byte(g: Option<u16>) -> OneByte
 }
 
 // The five bytes of a white point.
-pub fn point_bytes(p: WhitePoint) -> PointBytes
+pub fn point_bytes(p: WhitePoint) -> Leaf<5>
     ensures { WritesPoint p result.fits result.bytes }
 {
     let gamma = p.gamma;
@@ -104,7 +92,7 @@ pub fn point_bytes(p: WhitePoint) -> PointBytes
         (y / 4 % 256) as u8,
         last.byte,
     ];
-    PointBytes { fits, bytes }
+    Leaf { fits, bytes }
 }
 
 // ---- texts
@@ -119,7 +107,7 @@ fn text_byte(t: &[u8], k: usize) -> u8
 }
 
 // The 13 bytes of a text.
-pub fn text_bytes(t: &[u8]) -> TextBytes
+pub fn text_bytes(t: &[u8]) -> Leaf<13>
     ensures { WritesText t.now result.fits result.bytes }
 {
     let fits = write_leaf::digit(t.len() <= 13)
@@ -140,5 +128,5 @@ pub fn text_bytes(t: &[u8]) -> TextBytes
         text_byte(t, 11),
         text_byte(t, 12),
     ];
-    TextBytes { fits, bytes }
+    Leaf { fits, bytes }
 }

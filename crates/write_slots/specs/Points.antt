@@ -1,5 +1,5 @@
 -- Laws: a slot of white points, from what is known of the bytes of each.
-use Rattle.std.specs.Prelude.{ℕ, ◌≡◌, refl, Bool, List, [], ◌∷◌, ◌++◌, drop, replicate}
+use Rattle.std.specs.Prelude.{ℕ, ◌≡◌, refl, Bool, List, [], ◌∷◌, ◌++◌, drop, replicate, None, Option, Some}
 use Rattle.std.proofs.Common.{ap, subst, add-zero, get_or-drop}
 use Rattle.std.proofs.Math.Bool.{true}
 use Rattle.bits.specs.Bytes.{◌!◌}
@@ -8,7 +8,6 @@ use Rattle.standard_record.specs.declared.WhitePoint.{WhitePoint}
 use Rattle.standard_parts.specs.Color.{point_of}
 use Rattle.standard_parts.specs.Descriptors.{closing_refusal}
 use Rattle.standard_parts.specs.declared.Structure.{Structure}
-use Rattle.standard_parts.specs.declared.Point.{Point}
 use Rattle.standard_slots.specs.Said.{of_point, point_at, said}
 use Rattle.standard_slots.specs.declared.Points.{Points}
 use Rattle.write_leaf.specs.Bytes.{Bytes}
@@ -29,10 +28,10 @@ writes_none σ = record { made = refl; sound = λ h. record { size = refl; shown
 
 -- ---- from the bytes
 
-abbrev point : List ℕ → Point
+abbrev point : List ℕ → Option WhitePoint
 point l = point_of (l ! 0) (l ! 1) (l ! 2) (l ! 3) (l ! 4)
 
-reads : (σ : Structure) (p q : List ℕ) (x y : Point) → point p ≡ x → point q ≡ y → Reads σ (tagged 0xfb (points_rest p q)) (entries [] [] (of_point x ++ of_point y) [])
+reads : (σ : Structure) (p q : List ℕ) (x y : Option WhitePoint) → point p ≡ x → point q ≡ y → Reads σ (tagged 0xfb (points_rest p q)) (entries [] [] (of_point x ++ of_point y) [])
 unfolding said tag_of closing_refusal point_at
 reads σ p q x y e k = record { size = refl; shown = rw (e, k) }
 
@@ -42,10 +41,10 @@ reads σ p q x y e k = record { size = refl; shown = rw (e, k) }
 abbrev pub ReadIn : List ℕ → WhitePoint → Type 0
 ReadIn t p = (k : ℕ) × ReadsPoint (drop k t) p
 
-read_in : (t : List ℕ) (k : ℕ) (x : Point) → point_at t k ≡ x → All (ReadIn t) (of_point x)
+read_in : (t : List ℕ) (k : ℕ) (x : Option WhitePoint) → point_at t k ≡ x → All (ReadIn t) (of_point x)
 unfolding point_at
-read_in t k (Point.Listed p) e = ((k, simp (get_or-drop, add-zero) e), tt)
-read_in t k Point.Skipped e = tt
+read_in t k (Some p) e = ((k, simp (get_or-drop, add-zero) e), tt)
+read_in t k None e = tt
 
 abbrev points_of : Shows → List WhitePoint
 points_of refused = []
@@ -73,7 +72,7 @@ points_read σ t ws h =
 abbrev blank : List ℕ
 blank = replicate 5 0
 
-skipped : point blank ≡ Point.Skipped
+skipped : point blank ≡ None
 unfolding point_of
 skipped = refl
 
@@ -86,7 +85,7 @@ module _ (p : WhitePoint) (f : Bool) (b : List ℕ) (w : WritesPoint p f b) wher
   writes_one σ =
       record {
         made = rw w.made;
-        sound = λ h. reads σ b blank (Point.Listed p) Point.Skipped (w.sound (two_hold f true h).0) skipped;
+        sound = λ h. reads σ b blank (Some p) None (w.sound (two_hold f true h).0) skipped;
         complete = λ t h r. rw (fits t h (points_read σ t (p ∷ []) r.shown).0);
       }
 
@@ -95,7 +94,7 @@ module _ (p q : WhitePoint) (f g : Bool) (a b : List ℕ) (w : WritesPoint p f a
   unfolding slot_bytes point_bytes
   writes_two σ = record {
     made = rw (w.made, v.made);
-    sound = λ h. reads σ a b (Point.Listed p) (Point.Listed q) (w.sound (two_hold f g h).0) (v.sound (two_hold f g h).1);
+    sound = λ h. reads σ a b (Some p) (Some q) (w.sound (two_hold f g h).0) (v.sound (two_hold f g h).1);
     complete = λ t h r.
         let e = points_read σ t (p ∷ q ∷ []) r.shown in
         rw (fits p f a w t h e.0, fits q g b v t h e.1.0);

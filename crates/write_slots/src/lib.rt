@@ -16,23 +16,8 @@ use standard_parts::Structure;
 use standard_record::{Descriptor, Limits, SecondaryTiming};
 use standard_slots::Points;
 use steps::Span;
-use write_leaf::SlotBytes;
+use write_leaf::Leaf;
 use write_pairs::PairsBytes;
-use write_parts::PointBytes;
-
-// The 13 bytes behind a tag.
-#[derive(Drop)]
-struct Rest {
-    fits: bool,
-    bytes: [u8; 13],
-}
-
-// The kind of a secondary timing, and seven bytes.
-#[derive(Drop)]
-struct SecondaryBytes {
-    fits: bool,
-    bytes: [u8; 8],
-}
 
 // The two ends of a range, and the code of what is added to them.
 #[derive(Clone, Copy)]
@@ -51,8 +36,8 @@ struct LimitsBytes {
     bytes: [u8; 5],
 }
 
-// A slot without a clock: its tag, and the byte behind it.
-fn headed(tag: u8, b4: u8, rest: Rest) -> SlotBytes
+// A slot without a clock: its tag, the byte behind it, and the 13 behind that.
+fn headed(tag: u8, b4: u8, rest: Leaf<13>) -> Leaf<18>
     ensures { (result.fits ≡ rest.fits) × (result.bytes ≡ headed tag b4 rest.bytes) }
 {
     let b = rest.bytes;
@@ -60,13 +45,13 @@ fn headed(tag: u8, b4: u8, rest: Rest) -> SlotBytes
         0, 0, 0, tag, b4, b[0], b[1], b[2], b[3], b[4], b[5], b[6], b[7], b[8], b[9], b[10], b[11],
         b[12],
     ];
-    SlotBytes {
+    Leaf {
         fits: rest.fits,
         bytes,
     }
 }
 
-fn tagged(tag: u8, rest: Rest) -> SlotBytes
+fn tagged(tag: u8, rest: Leaf<13>) -> Leaf<18>
     ensures { (result.fits ≡ rest.fits) × (result.bytes ≡ tagged tag rest.bytes) }
 {
     headed(tag, 0, rest)
@@ -74,7 +59,7 @@ fn tagged(tag: u8, rest: Rest) -> SlotBytes
 
 // ---- white points
 
-fn points_rest(first: PointBytes, second: PointBytes) -> Rest
+fn points_rest(first: Leaf<5>, second: Leaf<5>) -> Leaf<13>
     ensures { (result.fits ≡ both_points first.fits second.fits) × (result.bytes ≡ points_rest first.bytes second.bytes) }
 {
     let p = first.bytes;
@@ -82,19 +67,19 @@ fn points_rest(first: PointBytes, second: PointBytes) -> Rest
     let bytes = [
         p[0], p[1], p[2], p[3], p[4], q[0], q[1], q[2], q[3], q[4], 0x0a, 0x20, 0x20,
     ];
-    Rest {
+    Leaf {
         fits: write_leaf::digit(first.fits) + write_leaf::digit(second.fits) == 2,
         bytes,
     }
 }
 
-pub fn points_bytes(ps: Points) -> SlotBytes
+pub fn points_bytes(ps: Points) -> Leaf<18>
     ensures { (σ : Structure) → WritesPoints σ ps result.fits result.bytes }
 {
     match ps {
         Points::None => tagged(
             0x10,
-            Rest {
+            Leaf {
                 fits: true,
                 bytes: [0u8; 13],
             },
@@ -103,7 +88,7 @@ pub fn points_bytes(ps: Points) -> SlotBytes
             0xfb,
             points_rest(
                 write_parts::point_bytes(p),
-                PointBytes {
+                Leaf {
                     fits: true,
                     bytes: [0u8; 5],
                 },
@@ -119,7 +104,7 @@ pub fn points_bytes(ps: Points) -> SlotBytes
 // ---- pairs
 
 // The first six of the pairs, then 0x0a.
-pub fn six_bytes(pairs: PairsBytes) -> SlotBytes
+pub fn six_bytes(pairs: PairsBytes) -> Leaf<18>
     ensures { (result.fits ≡ pairs.fits) × (result.bytes ≡ tagged 0xfa (take 12 pairs.bytes ++ 0x0a ∷ [])) }
 {
     let b = pairs.bytes;
@@ -128,7 +113,7 @@ pub fn six_bytes(pairs: PairsBytes) -> SlotBytes
     ];
     tagged(
         0xfa,
-        Rest {
+        Leaf {
             fits: pairs.fits,
             bytes,
         },
@@ -141,11 +126,7 @@ pub fn six_bytes(pairs: PairsBytes) -> SlotBytes
 fn within(s: Span, n: usize) -> bool
     ensures { result ≡ within s n }
 {
-    if s.start <= n {
-        s.len <= n - s.start
-    } else {
-        false
-    }
+    s.start <= n && s.len <= n - s.start
 }
 
 // Whether it also is of this size.
@@ -155,12 +136,12 @@ fn exact(size: usize, s: Span, n: usize) -> bool
     write_leaf::digit(s.len == size) + write_leaf::digit(within(s, n)) == 2
 }
 
-fn text_rest(s: Span, lent: &[u8]) -> Rest
+fn text_rest(s: Span, lent: &[u8]) -> Leaf<13>
     ensures { WritesSpan lent.now s result.fits result.bytes }
 {
     let text = write_parts::text_bytes(bits::part(lent, s.start, s.len));
     let bytes = text.bytes;
-    Rest {
+    Leaf {
         fits: write_leaf::digit(within(s, lent.len())) + write_leaf::digit(text.fits) == 2,
         bytes,
     }
@@ -188,25 +169,25 @@ fn run_bytes(run: &[u8]) -> [u8; 13]
 }
 
 // `known`: the tag is one of those that have such a run.
-fn run_rest(known: bool, s: Span, lent: &[u8]) -> Rest
+fn run_rest(known: bool, s: Span, lent: &[u8]) -> Leaf<13>
     ensures { (result.fits ≡ run_fits known s (length lent.now)) × (result.bytes ≡ pad 13 0 (bytes_of lent.now s)) }
 {
     let fits = write_leaf::digit(known) + write_leaf::digit(exact(13, s, lent.len())) == 2;
     let bytes = run_bytes(bits::part(lent, s.start, s.len));
-    Rest { fits, bytes }
+    Leaf { fits, bytes }
 }
 
 // ---- range limits
 
-fn secondary_bytes(s: SecondaryTiming, lent: &[u8]) -> SecondaryBytes
+fn secondary_bytes(s: SecondaryTiming, lent: &[u8]) -> Leaf<8>
     ensures { (result.fits ≡ secondary_fits s (length lent.now)) × (result.bytes ≡ secondary_bytes (secondary lent.now s)) }
 {
     match s {
-        SecondaryTiming::None => SecondaryBytes {
+        SecondaryTiming::None => Leaf {
             fits: true,
             bytes: [0, 0x0a, 0x20, 0x20, 0x20, 0x20, 0x20, 0x20],
         },
-        SecondaryTiming::GTF { start, c, m, k, j } => SecondaryBytes {
+        SecondaryTiming::GTF { start, c, m, k, j } => Leaf {
             fits: start / 2000 % 256 * 2000 == start,
             bytes: [
                 2,
@@ -221,7 +202,7 @@ fn secondary_bytes(s: SecondaryTiming, lent: &[u8]) -> SecondaryBytes
         },
         SecondaryTiming::Other { kind, data } => {
             let b = run_bytes(bits::part(lent, data.start, data.len));
-            SecondaryBytes {
+            Leaf {
                 fits: write_leaf::digit(kind != 0)
                     + write_leaf::digit(kind != 2)
                     + write_leaf::digit(exact(7, data, lent.len()))
@@ -248,19 +229,14 @@ fn offset_code(min: u32, max: u32) -> u8
 fn less(n: u32, offset: u16) -> u8
     ensures { result ≡ low (n - offset) }
 {
-    let k = offset as u32;
-    if n < k { 0 } else { ((n - k) % 256) as u8 }
+    (n.saturating_sub(offset as u32) % 256) as u8
 }
 
 // An offset is read from revision 4 on.
 fn is_read(structure: Structure, code: u8) -> bool
     ensures { result ≡ (since4 structure || eqb code 0) }
 {
-    if standard_parts::since_4(structure) {
-        true
-    } else {
-        code == 0
-    }
+    standard_parts::since_4(structure) || code == 0
 }
 
 // The two ends of a range, in units.
@@ -300,7 +276,7 @@ fn limits_bytes(structure: Structure, l: Limits) -> LimitsBytes
     }
 }
 
-fn range_slot(structure: Structure, l: Limits, s: SecondaryTiming, lent: &[u8]) -> SlotBytes
+fn range_slot(structure: Structure, l: Limits, s: SecondaryTiming, lent: &[u8]) -> Leaf<18>
     ensures { (result.fits ≡ range_fits structure l s (length lent.now)) × (result.bytes ≡ headed 0xfd (offsets_byte l) (limits_bytes l ++ secondary_bytes (secondary lent.now s))) }
 {
     let limits = limits_bytes(structure, l);
@@ -311,12 +287,12 @@ fn range_slot(structure: Structure, l: Limits, s: SecondaryTiming, lent: &[u8]) 
     let bytes = [
         a[0], a[1], a[2], a[3], a[4], b[0], b[1], b[2], b[3], b[4], b[5], b[6], b[7],
     ];
-    headed(0xfd, limits.offsets, Rest { fits, bytes })
+    headed(0xfd, limits.offsets, Leaf { fits, bytes })
 }
 
 // ---- descriptors
 
-pub fn descriptor_bytes(structure: Structure, d: Descriptor, lent: &[u8]) -> SlotBytes
+pub fn descriptor_bytes(structure: Structure, d: Descriptor, lent: &[u8]) -> Leaf<18>
     ensures { WritesDescriptor structure lent.now d result.fits result.bytes }
 {
     match d {

@@ -6,7 +6,7 @@ ghost use Rattle.write_timing.specs.Timing.{stereo_code, line_code, polarity_cod
 
 use standard_record::{DetailedTiming, Sync, SyncLine};
 use timing::{Across, Border, Down, Size, StereoType, SyncPolarity};
-use write_leaf::SlotBytes;
+use write_leaf::Leaf;
 
 // ---- the last byte
 
@@ -127,11 +127,11 @@ fn excess(d: DetailedTiming) -> u32
 fn fits_timing(d: DetailedTiming) -> bool
     ensures { result ≡ fits_timing d }
 {
-    if d.clock == 0 { false } else { excess(d) == 0 }
+    d.clock != 0 && excess(d) == 0
 }
 
 // The 18 bytes of a detailed timing.
-pub fn timing_bytes(d: DetailedTiming) -> SlotBytes
+pub fn timing_bytes(d: DetailedTiming) -> Leaf<18>
     ensures { WritesTiming d result.fits result.bytes }
 {
     let fits = fits_timing(d);
@@ -161,5 +161,5 @@ pub fn timing_bytes(d: DetailedTiming) -> SlotBytes
         (d.border.down.0 % 256) as u8,
         last,
     ];
-    SlotBytes { fits, bytes }
+    Leaf { fits, bytes }
 }

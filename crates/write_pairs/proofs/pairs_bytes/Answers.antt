@@ -18,39 +18,39 @@ pub returns-then-k-end : goal.returns-then-k-end
 returns-then-k-end c =
     let items : List HeldPair = c.args.list.items in
     let size : length items ≡ 26 = search rules in
-    let whole : (c.least-end.result ≤ 26) × (length items ≡ 26) = (omega (arith, c.least-end.ensures), size) in
-    let ahead : List HeldPair = drop c.args.from (take (c.least-end.result) (items)) in
-    let left : WritesPairs c.args.structure (run held_pair c.args.number c.most-limit.result (ahead)) c.loop-many.fits c.loop-many.bytes c.loop-many.many → WritesPairs c.args.structure (pairs_ahead c.args.list c.args.from c.args.number) c.loop-many.fits c.loop-many.bytes c.loop-many.many = asked c.args.structure c.args.list c.args.from c.args.number _ _ _ (whole).1 _ c.least-end.ensures _
+    let whole : (c.min-end.result ≤ 26) × (length items ≡ 26) = (omega (arith, c.min-end.ensures), size) in
+    let ahead : List HeldPair = drop c.args.from (take (c.min-end.result) (items)) in
+    let left : WritesPairs c.args.structure (run held_pair c.args.number c.most-limit.result (ahead)) c.loop-many.fits c.loop-many.bytes c.loop-many.many → WritesPairs c.args.structure (pairs_ahead c.args.list c.args.from c.args.number) c.loop-many.fits c.loop-many.bytes c.loop-many.many = asked c.args.structure c.args.list c.args.from c.args.number _ _ _ (whole).1 _ c.min-end.ensures _
     c.most-limit.ensures.0 in
     left (stops c.loop-many.invariant.2 _ c.loop-many.invariant.0
-    (none_left (items) c.args.from (c.least-end.result) c.loop-many.many c.loop-many.k _ c.loop-many.invariant.1 (omega arith)))
+    (none_left (items) c.args.from (c.min-end.result) c.loop-many.many c.loop-many.k _ c.loop-many.invariant.1 (omega arith)))
 
 pub returns-then-w : goal.returns-then-w
 returns-then-w c =
     let items : List HeldPair = c.args.list.items in
     let size : length items ≡ 26 = search rules in
-    let whole : (c.least-end.result ≤ 26) × (length items ≡ 26) = (omega (arith, c.least-end.ensures), size) in
-    let ahead : List HeldPair = drop c.args.from (take (c.least-end.result) (items)) in
-    let left : WritesPairs c.args.structure (run held_pair c.args.number c.most-limit.result (ahead)) c.loop-many.fits c.loop-many.bytes c.loop-many.many → WritesPairs c.args.structure (pairs_ahead c.args.list c.args.from c.args.number) c.loop-many.fits c.loop-many.bytes c.loop-many.many = asked c.args.structure c.args.list c.args.from c.args.number _ _ _ (whole).1 _ c.least-end.ensures _
+    let whole : (c.min-end.result ≤ 26) × (length items ≡ 26) = (omega (arith, c.min-end.ensures), size) in
+    let ahead : List HeldPair = drop c.args.from (take (c.min-end.result) (items)) in
+    let left : WritesPairs c.args.structure (run held_pair c.args.number c.most-limit.result (ahead)) c.loop-many.fits c.loop-many.bytes c.loop-many.many → WritesPairs c.args.structure (pairs_ahead c.args.list c.args.from c.args.number) c.loop-many.fits c.loop-many.bytes c.loop-many.many = asked c.args.structure c.args.list c.args.from c.args.number _ _ _ (whole).1 _ c.min-end.ensures _
     c.most-limit.ensures.0 in
     let h = whole in
     left (stops c.loop-many.invariant.2 _ c.loop-many.invariant.0
-    (another (items) c.args.from (c.least-end.result) c.loop-many.many c.loop-many.k c.args.number c.loop-many.invariant.1 _ (omega arith) (omega arith)
+    (another (items) c.args.from (c.min-end.result) c.loop-many.many c.loop-many.k c.args.number c.loop-many.invariant.1 _ (omega arith) (omega arith)
     (eqb-false _ _ (is_not _ (sym c.held_bytes-w.ensures.0 ∙ c.if-w.true)))))
 
 pub loop-many-preserved : goal.loop-many-preserved
 loop-many-preserved c =
     let items : List HeldPair = c.args.list.items in
     let size : length items ≡ 26 = search rules in
-    let whole : (c.least-end.result ≤ 26) × (length items ≡ 26) = (omega (arith, c.least-end.ensures), size) in
+    let whole : (c.min-end.result ≤ 26) × (length items ≡ 26) = (omega (arith, c.min-end.ensures), size) in
     let h = whole in
-    let room : c.loop-many.k < c.least-end.result = omega arith in
-    let fits : c.least-end.result ≤ length (items) = omega arith in
-    let here = in_list (items) c.args.from (c.least-end.result) c.loop-many.many c.loop-many.k c.args.number c.loop-many.invariant.1 blank_standard room fits in
-    let at = is_at (items) c.args.from (c.least-end.result) c.loop-many.many c.loop-many.k c.args.number c.loop-many.invariant.1 blank_standard room fits in (
+    let room : c.loop-many.k < c.min-end.result = omega arith in
+    let fits : c.min-end.result ≤ length (items) = omega arith in
+    let here = in_list (items) c.args.from (c.min-end.result) c.loop-many.many c.loop-many.k c.args.number c.loop-many.invariant.1 blank_standard room fits in
+    let at = is_at (items) c.args.from (c.min-end.result) c.loop-many.many c.loop-many.k c.args.number c.loop-many.invariant.1 blank_standard room fits in (
       omega arith,
       omega arith,
-      rw c.both-fits.ensures (one_more c.loop-many.invariant.2 blank_standard here (omega arith)
+      (one_more c.loop-many.invariant.2 blank_standard here (omega arith)
           (rw at (eqb-true _ _ (is_so _ (sym c.held_bytes-w.ensures.0 ∙ c.if-w.false))))
           _ _ _ (rw at c.held_bytes-w.ensures.1)),
     )
@@ -59,8 +59,8 @@ pub returns : goal.returns
 returns c =
     let items : List HeldPair = c.args.list.items in
     let size : length items ≡ 26 = search rules in
-    let whole : (c.least-end.result ≤ 26) × (length items ≡ 26) = (omega (arith, c.least-end.ensures), size) in
-    let ahead : List HeldPair = drop c.args.from (take (c.least-end.result) (items)) in
-    let left : WritesPairs c.args.structure (run held_pair c.args.number c.most-limit.result (ahead)) c.loop-many.fits c.loop-many.bytes c.loop-many.many → WritesPairs c.args.structure (pairs_ahead c.args.list c.args.from c.args.number) c.loop-many.fits c.loop-many.bytes c.loop-many.many = asked c.args.structure c.args.list c.args.from c.args.number _ _ _ (whole).1 _ c.least-end.ensures _
+    let whole : (c.min-end.result ≤ 26) × (length items ≡ 26) = (omega (arith, c.min-end.ensures), size) in
+    let ahead : List HeldPair = drop c.args.from (take (c.min-end.result) (items)) in
+    let left : WritesPairs c.args.structure (run held_pair c.args.number c.most-limit.result (ahead)) c.loop-many.fits c.loop-many.bytes c.loop-many.many → WritesPairs c.args.structure (pairs_ahead c.args.list c.args.from c.args.number) c.loop-many.fits c.loop-many.bytes c.loop-many.many = asked c.args.structure c.args.list c.args.from c.args.number _ _ _ (whole).1 _ c.min-end.ensures _
     c.most-limit.ensures.0 in
     left (full c.loop-many.invariant.2 c.most-limit.result (omega arith))
