@@ -1,5 +1,5 @@
 -- What a slot may say, and what its bytes then are: one law, by which each fact goes back from what a slot says to its bytes.
-use Rattle.std.specs.Prelude.{ℕ, ◌+◌, ◌<◌, ◌≡◌, Bool, cond, List, None, Option, Some}
+use Rattle.std.specs.Prelude.{ℕ, ◌+◌, ◌<◌, ◌≡◌, Bool, cond, List, None, Option, Some, Result, Ok, Err}
 use Rattle.std.proofs.Math.Path.{refl}
 use Rattle.std.proofs.Math.Bool.{true, false}
 use Rattle.std.proofs.Common.{arith}
@@ -31,17 +31,14 @@ pub record Cases (P : Said → Type 0) (σ : Structure) (t : List ℕ) (at : ℕ
   pub raw : tag_of (t ! 3) ≡ Tag.Raw → P (described (raw_of (t ! 3) (record { start = at + 5; len = 13 })))
 
 module _ (P : Said → Type 0) (σ : Structure) (t : List ℕ) (at : ℕ) (e : Cases P σ t at) where
-  behind : (n : ℕ) (x : Said) → P x → P (unless n x)
-  behind n x h = go (eqb n 0)
-    where
-      go : (z : Bool) → P (cond z x (refusal n))
-      go true = h
-      go false = e.refused n
+  behind : (r : Result Unit ℕ) (x : Said) → P x → P (unless r x)
+  behind (Ok u) x h = h
+  behind (Err n) x h = e.refused n
 
   worded : (d : Span → Descriptor) → (is_padded (part t 5 13) (text_length (part t 5 13)) ≡ true → P (described (d (text_in t at)))) → P (text_as d t at)
   worded d h = go (is_padded (part t 5 13) (text_length (part t 5 13))) h
     where
-      go : (z : Bool) → (z ≡ true → P (described (d (text_in t at)))) → P (unless (cond z 0 5) (described (d (text_in t at))))
+      go : (z : Bool) → (z ≡ true → P (described (d (text_in t at)))) → P (unless (cond z (Ok tt) (Err 5)) (described (d (text_in t at))))
       go true h = h refl
       go false h = e.refused 5
 

@@ -1,5 +1,5 @@
 -- Laws of what a slot shows, for who puts slots into a block.
-use Rattle.std.specs.Prelude.{ℕ, zero, suc, ◌+◌, ◌<◌, ◌≤◌, ◌≡◌, Bool, true, false, cond, eqb, ltb, take, drop, None, Option, Some}
+use Rattle.std.specs.Prelude.{ℕ, zero, suc, ◌+◌, ◌<◌, ◌≤◌, ◌≡◌, Bool, true, false, cond, eqb, ltb, take, drop, None, Option, Some, Result, Ok, Err}
 use Rattle.std.proofs.Math.Path.{refl, ap}
 use Rattle.std.proofs.Common.{sym, ◌∙◌, arith, length-take, take-take, drop-drop, ne_eqb}
 use mathlib.Core.List.{List, [], ◌∷◌, nil≢cons, head-eq_of_cons-eq}
@@ -16,7 +16,7 @@ use Rattle.standard_parts.specs.Descriptors.{closing_refusal, range_refusal, off
 use Rattle.standard_parts.specs.Text.{text_length, all_spaces}
 use Rattle.standard_parts.specs.TextEnds.{text_ends}
 use Rattle.standard_parts.specs.declared.Structure.{Structure}
-use Rattle.standard_slots.specs.Said.{Said, refusal, pairs_at, text_in, text_as, padding_refusal, range_in, raw_of, of_timed, by_tag, said}
+use Rattle.standard_slots.specs.Said.{Said, refusal, unless, pairs_at, text_in, text_as, padding_refusal, range_in, raw_of, of_timed, by_tag, said}
 use Rattle.write_slots.specs.Words.{other, Words, serial, text, range, name, undefined, maker_defined, bytes_of, secondary, words, Entries, entries, Shows, refused, these, shows}
 use Rattle.write_slots.specs.Cases.{told}
 
@@ -55,8 +55,13 @@ module _ (σ : Structure) (b : List ℕ) (at : ℕ) where
   text_span : bytes_of b (text_in slot at) ≡ bytes_of slot (text_in slot 0)
   text_span = span 5 (text_length (part slot 5 13)) (omega (arith, (text_ends (part slot 5 13)).short, length-take 13 (drop 5 slot)))
 
+  -- so they are behind a test
+  behind : (r : Result Unit ℕ) (x y : Said) → Alike x y → Alike (unless r x) (unless r y)
+  behind (Ok u) x y h = h
+  behind (Err n) x y h = refl
+
   worded : (d : Span → Descriptor) → words b (d (text_in slot at)) ≡ words slot (d (text_in slot 0)) → Alike (text_as d slot at) (text_as d slot 0)
-  worded d h = agree (shows b) (shows slot) (eqb (padding_refusal slot (text_length (part slot 5 13))) 0) (ap one h) refl
+  worded d h = behind (padding_refusal slot (text_length (part slot 5 13))) _ _ (ap one h)
 
   second_span : (kind b12 b13 b14 b15 b16 b17 : ℕ)
       → secondary b (secondary_of kind b12 b13 b14 b15 b16 b17 (record { start = at + 11; len = 7 }))
@@ -79,10 +84,10 @@ module _ (σ : Structure) (b : List ℕ) (at : ℕ) where
 
   by_tag_lem : (tag : Tag) → Alike (by_tag σ tag slot at) (by_tag σ tag slot 0)
   by_tag_lem Tag.Dummy = refl
-  by_tag_lem Tag.Pairs = agree (shows b) (shows slot) (eqb (closing_refusal (slot ! 17) true) 0) refl refl
-  by_tag_lem Tag.Points = agree (shows b) (shows slot) (eqb (closing_refusal (slot ! 15) (all_spaces (part slot 16 2))) 0) refl refl
+  by_tag_lem Tag.Pairs = behind (closing_refusal (slot ! 17) true) _ _ refl
+  by_tag_lem Tag.Points = behind (closing_refusal (slot ! 15) (all_spaces (part slot 16 2))) _ _ refl
   by_tag_lem Tag.Name = worded Descriptor.Name (ap name text_span)
-  by_tag_lem Tag.Range = agree (shows b) (shows slot) (eqb (range_refusal (slot ! 10) (slot ! 11) (all_spaces (part slot 12 6))) 0) (ap one range_span) refl
+  by_tag_lem Tag.Range = behind (range_refusal (slot ! 10) (slot ! 11) (all_spaces (part slot 12 6))) _ _ (ap one range_span)
   by_tag_lem Tag.Text = worded Descriptor.Text (ap text text_span)
   by_tag_lem Tag.Serial = worded Descriptor.Serial (ap serial text_span)
   by_tag_lem Tag.Raw = ap one raw_span
