@@ -2,21 +2,22 @@
 use Rattle.std.specs.Prelude.{ℕ, zero, suc, ◌+◌, ◌-◌, ◌*◌, ◌/◌, ◌%◌, ◌<◌, ◌≤◌, min, cond, List, [], ◌∷◌, ◌++◌, ◌≡◌, refl, ltb, length, take, drop, get_or, set}
 use Rattle.std.proofs.Common.{append-nil, append_assoc, sym, ap, ◌∙◌, add-one, mod-eq_of_lt, zero-add, suc-add, arith, lt-ltb, le-ltb, length-drop, take-suc}
 use Rattle.std.proofs.Math.Nat.{zero-min, min-zero, suc-min-suc}
-use Rattle.page.specs.Page.{Page, page, and, ◌▷◌}
+use Rattle.page.specs.declared.Page.{Page}
+use Rattle.page.specs.Page.{holding, and, ◌▷◌}
 use Rattle.page.specs.Words.{space, decimal_in, field, field32, field16, field8, flat, each}
 
 -- ---- appending
 
 -- one byte, on a page with room and on a full page
-pub room : (out : List ℕ) (at b : ℕ) → at < 4096 → page (set out at b) (at + 1) ≡ page out at ▷ (b ∷ [])
+pub room : (p : Page) (b : ℕ) → p.at < 4096 → holding p (set p.out.now p.at b) (p.at + 1) ≡ p ▷ (b ∷ [])
 unfolding and ◌▷◌
-room out at b h = let e : at + 1 ≡ min (at + 1) 4096 = omega arith in rw (lt-ltb at 4096 h) (ap (page (set out at b)) e)
+room p b h = let e : p.at + 1 ≡ min (p.at + 1) 4096 = omega arith in rw (lt-ltb p.at 4096 h) (ap (holding p (set p.out.now p.at b)) e)
 
-pub full : (out : List ℕ) (at b : ℕ) → 4096 ≤ at → page out 4096 ≡ page out at ▷ (b ∷ [])
+pub full : (p : Page) (b : ℕ) → 4096 ≤ p.at → holding p p.out.now 4096 ≡ p ▷ (b ∷ [])
 unfolding and ◌▷◌
-full out at b h = let e : 4096 ≡ min (at + 1) 4096 = omega arith in rw (le-ltb at 4096 h) (ap (page out) e)
+full p b h = let e : 4096 ≡ min (p.at + 1) 4096 = omega arith in rw (le-ltb p.at 4096 h) (ap (holding p p.out.now) e)
 
-pub nothing : (p : Page) → p ≡ p ▷ []
+pub nothing : (p : Page) → p ▷ [] ≡ p
 unfolding ◌▷◌
 nothing p = refl
 
@@ -39,8 +40,17 @@ pub data Chain : Page → List (List ℕ) → Page → Type 0 where
 
 pub line : {p q : Page} {xs : List (List ℕ)} → Chain p xs q → q ≡ p ▷ flat xs
 unfolding flat
-line {p} done = nothing p
+line {p} done = sym (nothing p)
 line {p} {xs = x ∷ xs} (e so f) = after p x (flat xs) e (line f)
+
+-- the same as equations, from which the check finds a chain of its own accord
+pub pieces : (p : Page) (x : List ℕ) (xs : List (List ℕ)) → p ▷ flat (x ∷ xs) ≡ p ▷ x ▷ flat xs
+unfolding flat
+pieces p x xs = sym (joined p x (flat xs))
+
+pub no_pieces : (p : Page) → p ▷ flat [] ≡ p
+unfolding flat ◌▷◌
+no_pieces p = refl
 
 -- ---- decimals
 
@@ -101,6 +111,17 @@ each_append f (x ∷ xs) ys = ap (λ (l : List ℕ). f x ++ l) (each_append f xs
 pub each_more : {A : Type 0} (f : A → List ℕ) (s : List A) (i : ℕ) (d : A) → i < length s → each f (take i s) ++ f (get_or s i d) ≡ each f (take (i + 1) s)
 unfolding each
 each_more f s i d h = rw (← take_more s i d h, each_append, append-nil)
+
+-- the same on a page
+pub one_longer : (p : Page) (s : List ℕ) (i d : ℕ) → i < length s → p ▷ take i s ▷ (get_or s i d ∷ []) ≡ p ▷ take (i + 1) s
+one_longer p s i d h = rw (joined, take_more s i d h) refl
+
+pub one_more : {A : Type 0} (p : Page) (f : A → List ℕ) (s : List A) (i : ℕ) (d : A) → i < length s
+    → p ▷ each f (take i s) ▷ f (get_or s i d) ≡ p ▷ each f (take (i + 1) s)
+one_more p f s i d h = rw (joined, each_more f s i d h) refl
+
+-- what the check finds the contracts by, of what appends piece after piece
+pub ruleset appends = (nothing, one_longer, one_more, pieces, no_pieces)
 
 -- a turn of a loop that appends f of one element after the other
 pub turn : {A : Type 0} {p q : Page} (f : A → List ℕ) (s : List A) (i : ℕ) (d : A) → i < length s

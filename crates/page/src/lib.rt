@@ -1,96 +1,201 @@
-// Text appended to a page of 4,096 bytes that the caller lends. `at` is how many bytes of the page are used, and each
-// function answers how many are used after it. Where the page is full the rest is dropped.
+// Text appended to a page of 4,096 bytes that the caller lends. Where the page is full the rest is dropped.
 #![tactic(auto)]
 
-ghost use Rattle.std.specs.Prelude.{min, ◌≡◌, [], ◌∷◌, length, take, drop};
+ghost use Rattle.std.specs.Prelude.{ℕ, List, ◌≡◌, [], ◌∷◌, length, take, drop};
 ghost use Rattle.std.specs.Float.{binary32};
 ghost use Rattle.std.specs.Float.Ieee.{to_bits};
-ghost use Rattle.page.specs.Page.{page, ◌▷◌};
+ghost use Rattle.page.specs.Page.{◌▷◌};
 ghost use Rattle.page.specs.Words as words;
 
-// One byte.
-pub fn put(out: &mut [u8; 4096], at: usize, b: u8) -> usize
-    ensures { page out.new result ≡ page out.old at ▷ (b ∷ []) }
-{
-    if at < 4096 {
-        out[at] = b;
-        at + 1
-    } else {
-        4096
+// A page that is lent, of which the first `at` bytes are used.
+#[derive(Drop)]
+pub struct Page<'a> {
+    out: &'a mut [u8; 4096],
+    at: usize,
+}
+
+// A number of a line: what it is as text, with a space before it.
+pub trait Number {
+    ghost field: { Self → List ℕ };
+
+    fn write(self, page: &mut Page)
+        ensures { page.new ≡ page.old ▷ field self };
+}
+
+impl Number for usize {
+    ghost field = { words.field };
+
+    #[tactic(auto, using(crate::specs::Laws::joined), unfolding(crate::specs::Words::field))]
+    fn write(self, page: &mut Page) {
+        page.space();
+        page.decimal(self);
     }
 }
 
-// All of s.
-pub fn bytes(out: &mut [u8; 4096], at: usize, s: &[u8]) -> usize
-    ensures { page out.new result ≡ page out.old at ▷ s.now }
-{
-    let mut n = at;
-    let mut i = 0;
-    while i < s.len() {
-        n = put(out, n, s[i]);
-        i += 1;
-    }
-    n
-}
+impl Number for u32 {
+    ghost field = { words.field32 };
 
-pub fn space(out: &mut [u8; 4096], at: usize) -> usize
-    ensures { page out.new result ≡ page out.old at ▷ words.space }
-{
-    put(out, at, 32)
-}
-
-pub fn newline(out: &mut [u8; 4096], at: usize) -> usize
-    ensures { page out.new result ≡ page out.old at ▷ words.newline }
-{
-    put(out, at, 10)
-}
-
-// n in decimal, with no zeros in front.
-fn decimal(out: &mut [u8; 4096], at: usize, n: usize) -> usize
-    ensures { page out.new result ≡ page out.old at ▷ words.decimal_in 19 n }
-{
-    if n < 10 {
-        put(out, at, 48 + n as u8)
-    } else {
-        let k = decimal(out, at, n / 10);
-        put(out, k, 48 + (n % 10) as u8)
+    #[tactic(auto, using(crate::specs::Laws::short32))]
+    fn write(self, page: &mut Page) {
+        (self as usize).write(page);
     }
 }
 
-// A space, and n in decimal: a number of a line.
-pub fn field(out: &mut [u8; 4096], at: usize, n: usize) -> usize
-    ensures { page out.new result ≡ page out.old at ▷ words.field n }
-{
-    let k = space(out, at);
-    decimal(out, k, n)
+impl Number for u16 {
+    ghost field = { words.field16 };
+
+    #[tactic(auto, using(crate::specs::Laws::short16))]
+    fn write(self, page: &mut Page) {
+        (self as usize).write(page);
+    }
 }
 
-pub fn field32(out: &mut [u8; 4096], at: usize, n: u32) -> usize
-    ensures { page out.new result ≡ page out.old at ▷ words.field32 n }
-{
-    field(out, at, n as usize)
+impl Number for u8 {
+    ghost field = { words.field8 };
+
+    #[tactic(auto, using(crate::specs::Laws::short8))]
+    fn write(self, page: &mut Page) {
+        (self as usize).write(page);
+    }
 }
 
-pub fn field16(out: &mut [u8; 4096], at: usize, n: u16) -> usize
-    ensures { page out.new result ≡ page out.old at ▷ words.field16 n }
-{
-    field(out, at, n as usize)
-}
+impl<'a> Page<'a> {
+    // A page with nothing on it yet.
+    pub fn new(out: &'a mut [u8; 4096]) -> Page<'a>
+        ensures lent { result.out.ghost_name ≡ out.entry.ghost_name }
+        ensures bytes { result.out.now ≡ out.old }
+        ensures used { result.at ≡ 0 }
+    {
+        Page { out, at: 0 }
+    }
 
-pub fn field8(out: &mut [u8; 4096], at: usize, n: u8) -> usize
-    ensures { page out.new result ≡ page out.old at ▷ words.field8 n }
-{
-    field(out, at, n as usize)
-}
+    // A page of which n bytes are used already.
+    pub fn after(out: &'a mut [u8; 4096], n: usize) -> Page<'a>
+        ensures lent { result.out.ghost_name ≡ out.entry.ghost_name }
+        ensures bytes { result.out.now ≡ out.old }
+        ensures used { result.at ≡ n }
+    {
+        Page { out, at: n }
+    }
 
-// A space, and 1 or 0.
-pub fn flag(out: &mut [u8; 4096], at: usize, b: bool) -> usize
-    ensures { page out.new result ≡ page out.old at ▷ words.flag b }
-{
-    if b {
-        bytes(out, at, b" 1")
-    } else {
-        bytes(out, at, b" 0")
+    // How many bytes are used.
+    pub fn len(&self) -> usize
+        ensures { result ≡ self.now.at }
+    {
+        self.at
+    }
+
+    // One byte.
+    pub fn put(&mut self, b: u8)
+        ensures { self.new ≡ self.old ▷ (b ∷ []) }
+    {
+        if self.at < 4096 {
+            self.out[self.at] = b;
+            self.at += 1;
+        } else {
+            self.at = 4096;
+        }
+    }
+
+    // All of s.
+    #[tactic(auto, using(crate::specs::Laws::appends))]
+    pub fn bytes(&mut self, s: &[u8])
+        ensures { self.new ≡ self.old ▷ s.now }
+    {
+        for b in s {
+            self.put(*b);
+        }
+    }
+
+    pub fn space(&mut self)
+        ensures { self.new ≡ self.old ▷ words.space }
+    {
+        self.put(b' ');
+    }
+
+    pub fn newline(&mut self)
+        ensures { self.new ≡ self.old ▷ words.newline }
+    {
+        self.put(b'\n');
+    }
+
+    // n in decimal, with no zeros in front.
+    fn decimal(&mut self, n: usize)
+        ensures { self.new ≡ self.old ▷ words.decimal_in 19 n }
+    {
+        if n < 10 {
+            self.put(48 + n as u8);
+        } else {
+            self.decimal(n / 10);
+            self.put(48 + (n % 10) as u8);
+        }
+    }
+
+    // A space, and n in decimal: a number of a line.
+    pub fn field<N: Number>(&mut self, n: N)
+        ensures { self.new ≡ self.old ▷ N.field n }
+    {
+        n.write(self);
+    }
+
+    // A space, and 1 or 0.
+    #[tactic(auto, unfolding(crate::specs::Words::flag))]
+    pub fn flag(&mut self, b: bool)
+        ensures { self.new ≡ self.old ▷ words.flag b }
+    {
+        self.bytes(if b { b" 1" } else { b" 0" });
+    }
+
+    // The last two, four and eight hexadecimal digits of n.
+    #[tactic(auto, using(crate::specs::Laws::joined), unfolding(crate::specs::Words::hex_of2))]
+    fn hex2(&mut self, n: u32)
+        ensures { self.new ≡ self.old ▷ words.hex_of2 n }
+    {
+        self.put(digit(n / 16));
+        self.put(digit(n));
+    }
+
+    #[tactic(auto, using(crate::specs::Laws::joined), unfolding(crate::specs::Words::hex_of4))]
+    fn hex4(&mut self, n: u32)
+        ensures { self.new ≡ self.old ▷ words.hex_of4 n }
+    {
+        self.hex2(n / 256);
+        self.hex2(n);
+    }
+
+    #[tactic(auto, using(crate::specs::Laws::joined), unfolding(crate::specs::Words::hex_of8))]
+    fn hex8(&mut self, n: u32)
+        ensures { self.new ≡ self.old ▷ words.hex_of8 n }
+    {
+        self.hex4(n / 65536);
+        self.hex4(n);
+    }
+
+    // A space, and the bits of x as eight hexadecimal digits.
+    #[tactic(auto, using(crate::specs::Laws::joined), unfolding(crate::specs::Words::float))]
+    pub fn float(&mut self, x: f32)
+        ensures { self.new ≡ self.old ▷ words.float x }
+    {
+        self.space();
+        self.hex8(bits(x));
+    }
+
+    // Each byte of s as two hexadecimal digits.
+    #[tactic(auto, using(crate::specs::Laws::appends), unfolding(crate::specs::Words::each))]
+    fn hex_run(&mut self, s: &[u8])
+        ensures { self.new ≡ self.old ▷ words.each words.hex_of2 s.now }
+    {
+        for b in s {
+            self.hex2(u32::from(*b));
+        }
+    }
+
+    // The len bytes of s from start on, or as many of them as s has, each as two hexadecimal digits.
+    pub fn hex_span(&mut self, s: &[u8], start: usize, len: usize)
+        ensures { self.new ≡ self.old ▷ words.each words.hex_of2 (take len (drop start s.now)) }
+    {
+        let rest = &s[start.min(s.len())..];
+        self.hex_run(&rest[..len.min(rest.len())]);
     }
 }
 
@@ -102,84 +207,10 @@ fn digit(n: u32) -> u8
     if d < 10 { 48 + d } else { 87 + d }
 }
 
-// The last two, four and eight hexadecimal digits of n.
-fn hex2(out: &mut [u8; 4096], at: usize, n: u32) -> usize
-    ensures { page out.new result ≡ page out.old at ▷ words.hex_of2 n }
-{
-    let k = put(out, at, digit(n / 16));
-    put(out, k, digit(n))
-}
-
-fn hex4(out: &mut [u8; 4096], at: usize, n: u32) -> usize
-    ensures { page out.new result ≡ page out.old at ▷ words.hex_of4 n }
-{
-    let k = hex2(out, at, n / 256);
-    hex2(out, k, n)
-}
-
-fn hex8(out: &mut [u8; 4096], at: usize, n: u32) -> usize
-    ensures { page out.new result ≡ page out.old at ▷ words.hex_of8 n }
-{
-    let k = hex4(out, at, n / 65536);
-    hex4(out, k, n)
-}
-
 // The bits of any f32. `f32::to_bits` asks that x is no NaN, which the test shows; a NaN is given
 // the pattern that `to_bits` gives it.
 fn bits(x: f32) -> u32
     ensures { result ≡ to_bits binary32 x }
 {
     if x == x { f32::to_bits(x) } else { 0x7fc00000 }
-}
-
-// A space, and the bits of x as eight hexadecimal digits.
-pub fn float(out: &mut [u8; 4096], at: usize, x: f32) -> usize
-    ensures { page out.new result ≡ page out.old at ▷ words.float x }
-{
-    let k = space(out, at);
-    hex8(out, k, bits(x))
-}
-
-// A widening in a function of its own asks no proof of its caller.
-fn wide8(x: u8) -> u32
-    ensures { result ≡ x }
-{
-    x as u32
-}
-
-// Each byte of s as two hexadecimal digits.
-fn hex_run(out: &mut [u8; 4096], at: usize, s: &[u8]) -> usize
-    ensures { page out.new result ≡ page out.old at ▷ words.each words.hex_of2 s.now }
-{
-    let mut n = at;
-    let mut i = 0;
-    while i < s.len() {
-        n = hex2(out, n, wide8(s[i]));
-        i += 1;
-    }
-    n
-}
-
-// The len bytes of s from start on, or as many of them as s has, each as two hexadecimal digits.
-pub fn hex_span(out: &mut [u8; 4096], at: usize, s: &[u8], start: usize, len: usize) -> usize
-    ensures { page out.new result ≡ page out.old at ▷ words.each words.hex_of2 (take len (drop start s.now)) }
-{
-    let from = least(start, s.len());
-    let count = least(len, s.len() - from);
-    let end = from + count;
-    hex_run(out, at, &s[from..end])
-}
-
-pub fn least(a: usize, b: usize) -> usize
-    ensures { result ≡ min a b }
-{
-    if a < b { a } else { b }
-}
-
-// How many bytes a page has: the count, and for proofs that the list has as many.
-pub fn size(out: &[u8; 4096]) -> usize
-    ensures { (result ≡ 4096) × (length out.now ≡ 4096) }
-{
-    let s: &[u8] = out;
-    s.len()
 }

@@ -2,74 +2,70 @@
 #![tactic(auto)]
 
 ghost use Rattle.std.specs.Prelude.{◌≡◌};
-ghost use Rattle.page.specs.Page.{page, ◌▷◌};
+ghost use Rattle.page.specs.Page.{◌▷◌};
 ghost use Rattle.page.specs.Words.{field8, each};
 ghost use Rattle.shared_lines.specs.Lines as lines;
 
+use page::Page;
 use steps::{Refusal, Span};
 use timing::{Across, Border, Down, StereoType, SyncPolarity};
 
 // ---- the head of a block
 
 // What follows the maker in the line of the product.
-pub fn product_numbers(
-    out: &mut [u8; 4096],
-    at: usize,
-    code: u16,
-    serial: u32,
-    week: u8,
-    year: u16,
-) -> usize
-    ensures { page out.new result ≡ page out.old at ▷ lines.product_numbers code serial week year }
+#[tactic(auto, using(page::specs::Laws::appends), unfolding(crate::specs::Lines::product_numbers))]
+pub fn product_numbers(page: &mut Page, code: u16, serial: u32, week: u8, year: u16)
+    ensures { page.new ≡ page.old ▷ lines.product_numbers code serial week year }
 {
-    let mut n = page::field16(out, at, code);
-    n = page::field32(out, n, serial);
-    n = page::field8(out, n, week);
-    n = page::field16(out, n, year);
-    page::newline(out, n)
+    page.field(code);
+    page.field(serial);
+    page.field(week);
+    page.field(year);
+    page.newline();
 }
 
-pub fn version_line(out: &mut [u8; 4096], at: usize, version: u8, revision: u8) -> usize
-    ensures { page out.new result ≡ page out.old at ▷ lines.version_line version revision }
+#[tactic(auto, using(page::specs::Laws::appends), unfolding(crate::specs::Lines::version_line))]
+pub fn version_line(page: &mut Page, version: u8, revision: u8)
+    ensures { page.new ≡ page.old ▷ lines.version_line version revision }
 {
-    let mut n = page::bytes(out, at, b"version");
-    n = page::field8(out, n, version);
-    n = page::field8(out, n, revision);
-    page::newline(out, n)
+    page.bytes(b"version");
+    page.field(version);
+    page.field(revision);
+    page.newline();
 }
 
 // What follows the levels of an analog input.
+#[tactic(auto, using(page::specs::Laws::appends), unfolding(crate::specs::Lines::input_flags))]
 pub fn input_flags(
-    out: &mut [u8; 4096],
-    at: usize,
+    page: &mut Page,
     setup: bool,
     serrated: bool,
     green: bool,
     composite: bool,
     separate: bool,
-) -> usize
-    ensures { page out.new result ≡ page out.old at ▷ lines.input_flags setup serrated green composite separate }
+)
+    ensures { page.new ≡ page.old ▷ lines.input_flags setup serrated green composite separate }
 {
-    let mut n = page::flag(out, at, setup);
-    n = page::flag(out, n, serrated);
-    n = page::flag(out, n, green);
-    n = page::flag(out, n, composite);
-    n = page::flag(out, n, separate);
-    page::newline(out, n)
+    page.flag(setup);
+    page.flag(serrated);
+    page.flag(green);
+    page.flag(composite);
+    page.flag(separate);
+    page.newline();
 }
 
-pub fn digital_line(out: &mut [u8; 4096], at: usize, dfp: bool) -> usize
-    ensures { page out.new result ≡ page out.old at ▷ lines.digital_line dfp }
+#[tactic(auto, using(page::specs::Laws::appends), unfolding(crate::specs::Lines::digital_line))]
+pub fn digital_line(page: &mut Page, dfp: bool)
+    ensures { page.new ≡ page.old ▷ lines.digital_line dfp }
 {
-    let mut n = page::bytes(out, at, b"digital");
-    n = page::flag(out, n, dfp);
-    page::newline(out, n)
+    page.bytes(b"digital");
+    page.flag(dfp);
+    page.newline();
 }
 
 // `kind` is the number of the display's type.
 pub fn dpms_line(
-    out: &mut [u8; 4096],
-    at: usize,
+    page: &mut Page,
     standby: bool,
     suspend: bool,
     lowpower: bool,
@@ -77,59 +73,55 @@ pub fn dpms_line(
     srgb: bool,
     preferred: bool,
     gtf: bool,
-) -> usize
-    ensures { page out.new result ≡ page out.old at ▷ lines.dpms_line standby suspend lowpower kind srgb preferred gtf }
+)
+    ensures { page.new ≡ page.old ▷ lines.dpms_line standby suspend lowpower kind srgb preferred gtf }
 {
-    let mut n = page::bytes(out, at, b"dpms");
-    n = page::flag(out, n, standby);
-    n = page::flag(out, n, suspend);
-    n = page::flag(out, n, lowpower);
-    n = page::field8(out, n, kind);
-    n = page::flag(out, n, srgb);
-    n = page::flag(out, n, preferred);
-    n = page::flag(out, n, gtf);
-    page::newline(out, n)
+    page.bytes(b"dpms");
+    page.flag(standby);
+    page.flag(suspend);
+    page.flag(lowpower);
+    page.field(kind);
+    page.flag(srgb);
+    page.flag(preferred);
+    page.flag(gtf);
+    page.newline();
 }
 
 // Each byte of s in decimal.
-pub fn numbers(out: &mut [u8; 4096], at: usize, s: &[u8]) -> usize
-    ensures { page out.new result ≡ page out.old at ▷ each field8 s.now }
+#[tactic(auto, using(page::specs::Laws::appends), unfolding(page::specs::Words::each))]
+pub fn numbers(page: &mut Page, s: &[u8])
+    ensures { page.new ≡ page.old ▷ each field8 s.now }
 {
-    let mut n = at;
-    let mut i = 0;
-    while i < s.len() {
-        n = page::field8(out, n, s[i]);
-        i += 1;
+    for x in s {
+        page.field(*x);
     }
-    n
 }
 
 // The numbers of the flags that are set: the first len of items.
-pub fn established_line(out: &mut [u8; 4096], at: usize, items: [u8; 17], len: usize) -> usize
-    ensures { page out.new result ≡ page out.old at ▷ lines.established_line items len }
+pub fn established_line(page: &mut Page, items: [u8; 17], len: usize)
+    ensures { page.new ≡ page.old ▷ lines.established_line items len }
 {
-    let count = page::least(len, 17);
-    let mut n = page::bytes(out, at, b"established");
-    n = numbers(out, n, &items[..count]);
-    page::newline(out, n)
+    page.bytes(b"established");
+    numbers(page, &items[..len.min(17)]);
+    page.newline();
 }
 
 // ---- a detailed timing
 
 // Its clock and its two axes: active, front porch, sync and back porch, across before down.
-pub fn axes(out: &mut [u8; 4096], at: usize, clock: u32, a: Across, d: Down) -> usize
-    ensures { page out.new result ≡ page out.old at ▷ lines.axes clock a d }
+pub fn axes(page: &mut Page, clock: u32, a: Across, d: Down)
+    ensures { page.new ≡ page.old ▷ lines.axes clock a d }
 {
-    let mut n = page::bytes(out, at, b"detailed");
-    n = page::field32(out, n, clock);
-    n = page::field16(out, n, a.active.0);
-    n = page::field16(out, n, d.active.0);
-    n = page::field16(out, n, a.front.0);
-    n = page::field16(out, n, d.front.0);
-    n = page::field16(out, n, a.sync.0);
-    n = page::field16(out, n, d.sync.0);
-    n = page::field16(out, n, a.back.0);
-    page::field16(out, n, d.back.0)
+    page.bytes(b"detailed");
+    page.field(clock);
+    page.field(a.active.0);
+    page.field(d.active.0);
+    page.field(a.front.0);
+    page.field(d.front.0);
+    page.field(a.sync.0);
+    page.field(d.sync.0);
+    page.field(a.back.0);
+    page.field(d.back.0);
 }
 
 pub fn stereo_number(t: StereoType) -> u8
@@ -147,106 +139,100 @@ pub fn stereo_number(t: StereoType) -> u8
 }
 
 // What stands between its size and its sync.
-pub fn border_to_stereo(
-    out: &mut [u8; 4096],
-    at: usize,
-    b: Border,
-    interlaced: bool,
-    t: StereoType,
-) -> usize
-    ensures { page out.new result ≡ page out.old at ▷ lines.border_to_stereo b interlaced t }
+#[tactic(auto, using(page::specs::Laws::appends), unfolding(crate::specs::Lines::border_to_stereo))]
+pub fn border_to_stereo(page: &mut Page, b: Border, interlaced: bool, t: StereoType)
+    ensures { page.new ≡ page.old ▷ lines.border_to_stereo b interlaced t }
 {
     let stereo = stereo_number(t);
-    let mut n = page::field16(out, at, b.across.0);
-    n = page::field16(out, n, b.down.0);
-    n = page::flag(out, n, interlaced);
-    page::field8(out, n, stereo)
+    page.field(b.across.0);
+    page.field(b.down.0);
+    page.flag(interlaced);
+    page.field(stereo);
 }
 
-pub fn polarity(out: &mut [u8; 4096], at: usize, p: SyncPolarity) -> usize
-    ensures { page out.new result ≡ page out.old at ▷ lines.polarity p }
+#[tactic(auto, using(page::specs::Laws::appends), unfolding(crate::specs::Lines::polarity))]
+pub fn polarity(page: &mut Page, p: SyncPolarity)
+    ensures { page.new ≡ page.old ▷ lines.polarity p }
 {
     match p {
-        SyncPolarity::Positive => page::bytes(out, at, b" 1"),
-        SyncPolarity::Negative => page::bytes(out, at, b" 0"),
+        SyncPolarity::Positive => page.bytes(b" 1"),
+        SyncPolarity::Negative => page.bytes(b" 0"),
     }
 }
 
 // ---- a descriptor
 
-pub fn text_fields(out: &mut [u8; 4096], at: usize, word: &[u8], d: Span) -> usize
-    ensures { page out.new result ≡ page out.old at ▷ lines.text_fields word.now d }
+#[tactic(auto, using(page::specs::Laws::appends), unfolding(crate::specs::Lines::text_fields))]
+pub fn text_fields(page: &mut Page, word: &[u8], d: Span)
+    ensures { page.new ≡ page.old ▷ lines.text_fields word.now d }
 {
-    let mut n = page::bytes(out, at, word);
-    n = page::field(out, n, d.start);
-    page::field(out, n, d.len)
+    page.bytes(word);
+    page.field(d.start);
+    page.field(d.len);
 }
 
-pub fn text_line(out: &mut [u8; 4096], at: usize, word: &[u8], d: Span) -> usize
-    ensures { page out.new result ≡ page out.old at ▷ lines.text_line word.now d }
+#[tactic(auto, using(page::specs::Laws::appends), unfolding(crate::specs::Lines::text_line))]
+pub fn text_line(page: &mut Page, word: &[u8], d: Span)
+    ensures { page.new ≡ page.old ▷ lines.text_line word.now d }
 {
-    let n = text_fields(out, at, word, d);
-    page::newline(out, n)
+    text_fields(page, word, d);
+    page.newline();
 }
 
-pub fn raw(out: &mut [u8; 4096], at: usize, s: &[u8], k: u8, d: Span) -> usize
-    ensures { page out.new result ≡ page out.old at ▷ lines.raw s.now k d }
+#[tactic(auto, using(page::specs::Laws::appends), unfolding(crate::specs::Lines::raw))]
+pub fn raw(page: &mut Page, s: &[u8], k: u8, d: Span)
+    ensures { page.new ≡ page.old ▷ lines.raw s.now k d }
 {
-    let len = page::least(d.len, 13);
-    let mut n = page::field8(out, at, k);
-    n = page::space(out, n);
-    page::hex_span(out, n, s, d.start, len)
+    page.field(k);
+    page.space();
+    page.hex_span(s, d.start, d.len.min(13));
 }
 
-pub fn raw_fields(out: &mut [u8; 4096], at: usize, word: &[u8], s: &[u8], tag: u8, d: Span) -> usize
-    ensures { page out.new result ≡ page out.old at ▷ lines.raw_fields word.now s.now tag d }
+#[tactic(auto, using(page::specs::Laws::appends), unfolding(crate::specs::Lines::raw_fields))]
+pub fn raw_fields(page: &mut Page, word: &[u8], s: &[u8], tag: u8, d: Span)
+    ensures { page.new ≡ page.old ▷ lines.raw_fields word.now s.now tag d }
 {
-    let n = page::bytes(out, at, word);
-    raw(out, n, s, tag, d)
+    page.bytes(word);
+    raw(page, s, tag, d);
 }
 
-pub fn raw_line(out: &mut [u8; 4096], at: usize, word: &[u8], s: &[u8], tag: u8, d: Span) -> usize
-    ensures { page out.new result ≡ page out.old at ▷ lines.raw_line word.now s.now tag d }
+#[tactic(auto, using(page::specs::Laws::appends), unfolding(crate::specs::Lines::raw_line))]
+pub fn raw_line(page: &mut Page, word: &[u8], s: &[u8], tag: u8, d: Span)
+    ensures { page.new ≡ page.old ▷ lines.raw_line word.now s.now tag d }
 {
-    let n = raw_fields(out, at, word, s, tag, d);
-    page::newline(out, n)
+    raw_fields(page, word, s, tag, d);
+    page.newline();
 }
 
 // The five numbers of a range, as the crate's listing has them; the standard reading's rates go up to 510.
-pub fn limits(
-    out: &mut [u8; 4096],
-    at: usize,
-    vmin: u8,
-    vmax: u8,
-    hmin: u32,
-    hmax: u32,
-    clock: u32,
-) -> usize
-    ensures { page out.new result ≡ page out.old at ▷ lines.limits vmin vmax hmin hmax clock }
+#[tactic(auto, using(page::specs::Laws::appends), unfolding(crate::specs::Lines::limits))]
+pub fn limits(page: &mut Page, vmin: u8, vmax: u8, hmin: u32, hmax: u32, clock: u32)
+    ensures { page.new ≡ page.old ▷ lines.limits vmin vmax hmin hmax clock }
 {
-    let mut n = page::bytes(out, at, b"range");
-    n = page::field8(out, n, vmin);
-    n = page::field8(out, n, vmax);
-    n = page::field32(out, n, hmin);
-    n = page::field32(out, n, hmax);
-    page::field32(out, n, clock)
+    page.bytes(b"range");
+    page.field(vmin);
+    page.field(vmax);
+    page.field(hmin);
+    page.field(hmax);
+    page.field(clock);
 }
 
 // ---- the end
 
-pub fn extensions_line(out: &mut [u8; 4096], at: usize, k: u8) -> usize
-    ensures { page out.new result ≡ page out.old at ▷ lines.extensions_line k }
+pub fn extensions_line(page: &mut Page, k: u8)
+    ensures { page.new ≡ page.old ▷ lines.extensions_line k }
 {
-    let mut n = page::bytes(out, at, b"extensions");
-    n = page::field8(out, n, k);
-    page::newline(out, n)
+    page.bytes(b"extensions");
+    page.field(k);
+    page.newline();
 }
 
-pub fn refuse_line(out: &mut [u8; 4096], at: usize, f: Refusal) -> usize
-    ensures { page out.new result ≡ page out.old at ▷ lines.refuse_line f }
+#[tactic(auto, using(page::specs::Laws::appends), unfolding(crate::specs::Lines::refuse_line))]
+pub fn refuse_line(page: &mut Page, f: Refusal)
+    ensures { page.new ≡ page.old ▷ lines.refuse_line f }
 {
-    let mut n = page::bytes(out, at, b"refuse");
-    n = page::field8(out, n, f.number);
-    n = page::field(out, n, f.at);
-    page::newline(out, n)
+    page.bytes(b"refuse");
+    page.field(f.number);
+    page.field(f.at);
+    page.newline();
 }

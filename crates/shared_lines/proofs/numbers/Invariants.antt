@@ -1,13 +1,8 @@
--- `shared_lines::numbers` meets its contract. The invariant: the first i bytes of s are appended. Assumes nothing.
-use Prim.Native.Nat.{◌≤◌, ◌-◌}
-use mathlib.Core.Path.{◌≡◌}
-use lib.ListN.{length, take}
-use Rattle.page.specs.Page.{page, ◌▷◌}
+-- `shared_lines::numbers` meets its contract. The invariant: the bytes of s so far are appended. Assumes nothing.
+use Rattle.std.proofs.Common.{◌≡◌, take}
+use Rattle.page.specs.Page.{◌▷◌}
 use Rattle.page.specs.Words.{field8, each}
 use Rattle.shared_lines.proofs.numbers.Given as goal
 
-abbrev pub invariant-loop-i : goal.invariant-loop-i
-invariant-loop-i l = (l.i ≤ length l.s) × (page l.out l.n ≡ page l.initial.out l.at ▷ each field8 (take l.i l.s))
-
-abbrev pub decreases-loop-i : goal.decreases-loop-i
-decreases-loop-i l = length l.s - l.i
+abbrev pub invariant-loop-x : goal.invariant-loop-x
+invariant-loop-x l = l.page ≡ l.initial.page ▷ each field8 (take l.x-index l.s)

@@ -1,6 +1,6 @@
 use Rattle.std.proofs.Common.{◌<◌, ◌≤◌, arith}
 use Rattle.page.specs.Laws.{joined, decimal_one, decimal_more}
-use Rattle.page.proofs.+decimal.Goals as goal
+use Rattle.page.proofs.Page.+decimal.Goals as goal
 
 pub returns-then-n-lt10 : goal.returns-then-n-lt10
 returns-then-n-lt10 t c = rw (← decimal_one _ c.if-n-lt10.true) c.put.ensures
