@@ -2,142 +2,139 @@
 #![tactic(auto)]
 
 ghost use Rattle.std.specs.Prelude.{◌≡◌};
-ghost use Rattle.page.specs.Page.{page, ◌▷◌};
+ghost use Rattle.page.specs.Page.{◌▷◌};
 ghost use Rattle.crate_slot_lines.specs.Lines as lines;
 
 use crate_record::{
-    DetailedTiming, DetailedTimings, Limits, MonitorDescriptor, MonitorDescriptors,
+    DetailedTiming, DetailedTimings, Held, Limits, MonitorDescriptor, MonitorDescriptors,
     SecondaryTiming, SyncLine, SyncType,
 };
+use page::Page;
 
 // ---- detailed timings
 
-fn sync(out: &mut [u8; 4096], at: usize, t: SyncType) -> usize
-    ensures { page out.new result ≡ page out.old at ▷ lines.sync t }
+#[tactic(auto, using(page::specs::Laws::appends), unfolding(crate::specs::Lines::sync))]
+fn sync(page: &mut Page, t: SyncType)
+    ensures { page.new ≡ page.old ▷ lines.sync t }
 {
     match t {
         SyncType::Composite { serrated, line } => match line {
             SyncLine::Green => {
-                let mut n = page::bytes(out, at, b" 0");
-                n = page::flag(out, n, serrated);
-                page::bytes(out, n, b" 0")
+                page.bytes(b" 0");
+                page.flag(serrated);
+                page.bytes(b" 0");
             }
             SyncLine::RGB => {
-                let mut n = page::bytes(out, at, b" 0");
-                n = page::flag(out, n, serrated);
-                page::bytes(out, n, b" 1")
+                page.bytes(b" 0");
+                page.flag(serrated);
+                page.bytes(b" 1");
             }
             SyncLine::Digital(p) => {
-                let mut n = page::bytes(out, at, b" 1");
-                n = page::flag(out, n, serrated);
-                shared_lines::polarity(out, n, p)
+                page.bytes(b" 1");
+                page.flag(serrated);
+                shared_lines::polarity(page, p);
             }
         },
         SyncType::Separate {
             horizontal,
             vertical,
         } => {
-            let mut n = page::bytes(out, at, b" 2");
-            n = shared_lines::polarity(out, n, horizontal);
-            shared_lines::polarity(out, n, vertical)
+            page.bytes(b" 2");
+            shared_lines::polarity(page, horizontal);
+            shared_lines::polarity(page, vertical);
         }
     }
 }
 
-fn detailed_line(out: &mut [u8; 4096], at: usize, d: DetailedTiming) -> usize
-    ensures { page out.new result ≡ page out.old at ▷ lines.detailed_line d }
+#[tactic(auto, using(page::specs::Laws::appends), unfolding(crate::specs::Lines::detailed_line))]
+fn detailed_line(page: &mut Page, d: DetailedTiming)
+    ensures { page.new ≡ page.old ▷ lines.detailed_line d }
 {
-    // an enum that is a field is copied before it is passed
-    let kind = d.sync;
-    let glasses = d.stereo;
-    let mut n = shared_lines::axes(out, at, d.clock, d.across, d.down);
-    n = page::float(out, n, d.size.width);
-    n = page::float(out, n, d.size.height);
-    n = shared_lines::border_to_stereo(out, n, d.border, d.interlaced, glasses);
-    n = sync(out, n, kind);
-    page::newline(out, n)
+    shared_lines::axes(page, d.clock, d.across, d.down);
+    page.float(d.size.width);
+    page.float(d.size.height);
+    shared_lines::border_to_stereo(page, d.border, d.interlaced, d.stereo);
+    sync(page, d.sync);
+    page.newline();
 }
 
-pub fn detailed_lines(out: &mut [u8; 4096], at: usize, l: DetailedTimings) -> usize
-    ensures { page out.new result ≡ page out.old at ▷ lines.detailed_lines l }
+#[tactic(auto, using(page::specs::Laws::appends), unfolding(page::specs::Words::each, crate::specs::Lines::detailed_lines))]
+pub fn detailed_lines(page: &mut Page, l: DetailedTimings)
+    ensures { page.new ≡ page.old ▷ lines.detailed_lines l }
 {
-    let items = l.items;
-    let count = page::least(l.len, 4);
-    let mut n = at;
-    let mut i = 0;
-    while i < count {
-        n = detailed_line(out, n, items[i]);
-        i += 1;
+    for x in &l.items[..l.len.min(4)] {
+        detailed_line(page, *x);
     }
-    n
 }
 
 // ---- descriptors
 
-fn secondary(out: &mut [u8; 4096], at: usize, s: &[u8], t: SecondaryTiming) -> usize
-    ensures { page out.new result ≡ page out.old at ▷ lines.secondary s.now t }
+#[tactic(auto, using(page::specs::Laws::appends), unfolding(crate::specs::Lines::secondary))]
+fn secondary(page: &mut Page, s: &[u8], t: SecondaryTiming)
+    ensures { page.new ≡ page.old ▷ lines.secondary s.now t }
 {
     match t {
-        SecondaryTiming::None => page::bytes(out, at, b" none"),
+        SecondaryTiming::None => page.bytes(b" none"),
         SecondaryTiming::GTF { start, c, m, k, j } => {
-            let mut n = page::bytes(out, at, b" gtf");
-            n = page::field32(out, n, start);
-            n = page::float(out, n, c);
-            n = page::float(out, n, m);
-            n = page::float(out, n, k);
-            page::float(out, n, j)
+            page.bytes(b" gtf");
+            page.field(start);
+            page.float(c);
+            page.float(m);
+            page.float(k);
+            page.float(j);
         }
         SecondaryTiming::Other { kind, data } => {
-            let n = page::bytes(out, at, b" other");
-            shared_lines::raw(out, n, s, kind, data)
+            page.bytes(b" other");
+            shared_lines::raw(page, s, kind, data);
         }
     }
 }
 
-fn range_line(out: &mut [u8; 4096], at: usize, s: &[u8], l: Limits, t: SecondaryTiming) -> usize
-    ensures { page out.new result ≡ page out.old at ▷ lines.range_line s.now l t }
+#[tactic(auto, using(page::specs::Laws::appends), unfolding(crate::specs::Lines::range_line))]
+fn range_line(page: &mut Page, s: &[u8], l: Limits, t: SecondaryTiming)
+    ensures { page.new ≡ page.old ▷ lines.range_line s.now l t }
 {
-    let mut n = shared_lines::limits(out, at, l.vmin, l.vmax, l.hmin, l.hmax, l.clock);
-    n = secondary(out, n, s, t);
-    page::newline(out, n)
+    shared_lines::limits(page, l.vmin, l.vmax, l.hmin, l.hmax, l.clock);
+    secondary(page, s, t);
+    page.newline();
 }
 
-fn descriptor_line(out: &mut [u8; 4096], at: usize, s: &[u8], t: MonitorDescriptor) -> usize
-    ensures { page out.new result ≡ page out.old at ▷ lines.descriptor_line s.now t }
+#[tactic(auto, using(page::specs::Laws::appends), unfolding(crate::specs::Lines::descriptor_line))]
+fn descriptor_line(page: &mut Page, s: &[u8], t: MonitorDescriptor)
+    ensures { page.new ≡ page.old ▷ lines.descriptor_line s.now t }
 {
     match t {
-        MonitorDescriptor::SerialNumber(d) => shared_lines::text_line(out, at, b"serial", d),
-        MonitorDescriptor::OtherString(d) => shared_lines::text_line(out, at, b"text", d),
+        MonitorDescriptor::SerialNumber(d) => shared_lines::text_line(page, b"serial", d),
+        MonitorDescriptor::OtherString(d) => shared_lines::text_line(page, b"text", d),
         MonitorDescriptor::RangeLimits { limits, secondary } => range_line(
-            out, at, s, limits, secondary,
+            page, s, limits, secondary,
         ),
-        MonitorDescriptor::MonitorName(d) => shared_lines::text_line(out, at, b"name", d),
+        MonitorDescriptor::MonitorName(d) => shared_lines::text_line(page, b"name", d),
         MonitorDescriptor::Undefined { tag, data } => shared_lines::raw_line(
-            out,
-            at,
+            page,
             b"undefined",
             s,
             tag,
             data,
         ),
         MonitorDescriptor::ManufacturerDefined { tag, data } => shared_lines::raw_line(
-            out, at, b"maker", s, tag, data,
+            page, b"maker", s, tag, data,
         ),
     }
 }
 
-pub fn descriptor_lines(out: &mut [u8; 4096], at: usize, s: &[u8], l: MonitorDescriptors) -> usize
-    ensures { page out.new result ≡ page out.old at ▷ lines.descriptor_lines s.now l }
+#[tactic(auto, unfolding(crate::specs::Lines::held_line))]
+fn held_line(page: &mut Page, s: &[u8], h: Held)
+    ensures { page.new ≡ page.old ▷ lines.held_line s.now h }
 {
-    let items = l.items;
-    let count = page::least(l.len, 3);
-    let mut n = at;
-    let mut i = 0;
-    while i < count {
-        let held = items[i];
-        let t = held.descriptor;
-        n = descriptor_line(out, n, s, t);
-        i += 1;
+    descriptor_line(page, s, h.descriptor);
+}
+
+#[tactic(auto, using(page::specs::Laws::appends), unfolding(page::specs::Words::each, crate::specs::Lines::descriptor_lines))]
+pub fn descriptor_lines(page: &mut Page, s: &[u8], l: MonitorDescriptors)
+    ensures { page.new ≡ page.old ▷ lines.descriptor_lines s.now l }
+{
+    for x in &l.items[..l.len.min(3)] {
+        held_line(page, s, *x);
     }
-    n
 }
