@@ -10,8 +10,10 @@ use crate_record::{
     ProductInformation, Reading, StandardTiming, StandardTimings, VideoInput, WhitePoint,
     WhitePoints,
 };
+use page::Page;
 use steps::{Cursor, End};
 
+#[tactic(auto, using(page::specs::Laws::appends), unfolding(crate::specs::Lines::product_line))]
 fn product_line(page: &mut Page, p: ProductInformation)
     ensures { page.new ≡ page.old ▷ lines.product_line p }
 {
@@ -24,6 +26,7 @@ fn product_line(page: &mut Page, p: ProductInformation)
 
 // ---- display
 
+#[tactic(auto, using(page::specs::Laws::appends), unfolding(crate::specs::Lines::input_line))]
 fn input_line(page: &mut Page, t: VideoInput)
     ensures { page.new ≡ page.old ▷ lines.input_line t }
 {
@@ -32,16 +35,20 @@ fn input_line(page: &mut Page, t: VideoInput)
             page.bytes(b"analog");
             page.float(level.high);
             page.float(level.low);
-            shared_lines::input_flags(page, setup,
+            shared_lines::input_flags(
+                page,
+                setup,
                 sync.serrated,
                 sync.green,
                 sync.composite,
-                sync.separate);
+                sync.separate,
+            );
         }
         VideoInput::Digital { dfp } => shared_lines::digital_line(page, dfp),
     }
 }
 
+#[tactic(auto, using(page::specs::Laws::appends), unfolding(crate::specs::Lines::size_line))]
 fn size_line(page: &mut Page, t: MaxSize)
     ensures { page.new ≡ page.old ▷ lines.size_line t }
 {
@@ -56,6 +63,7 @@ fn size_line(page: &mut Page, t: MaxSize)
     }
 }
 
+#[tactic(auto, using(page::specs::Laws::appends), unfolding(crate::specs::Lines::gamma_line))]
 fn gamma_line(page: &mut Page, t: Gamma)
     ensures { page.new ≡ page.old ▷ lines.gamma_line t }
 {
@@ -80,29 +88,29 @@ fn kind_number(t: DisplayType) -> u8
     }
 }
 
+#[tactic(auto, using(page::specs::Laws::appends), unfolding(crate::specs::Lines::features_line))]
 fn features_line(page: &mut Page, f: DPMSFeatures)
     ensures { page.new ≡ page.old ▷ lines.features_line f }
 {
-    let kind = f.kind;
-    let k = kind_number(kind);
-    shared_lines::dpms_line(page, f.standby,
+    shared_lines::dpms_line(
+        page,
+        f.standby,
         f.suspend,
         f.lowpower,
-        k,
+        kind_number(f.kind),
         f.srgb,
         f.preferred,
-        f.gtf);
+        f.gtf,
+    );
 }
 
+#[tactic(auto, using(page::specs::Laws::appends), unfolding(crate::specs::Lines::display_lines))]
 fn display_lines(page: &mut Page, d: DisplayParameters)
     ensures { page.new ≡ page.old ▷ lines.display_lines d }
 {
-    let input = d.input;
-    let size = d.size;
-    let gamma = d.gamma;
-    input_line(page, input);
-    size_line(page, size);
-    gamma_line(page, gamma);
+    input_line(page, d.input);
+    size_line(page, d.size);
+    gamma_line(page, d.gamma);
     features_line(page, d.dpms);
 }
 
@@ -123,6 +131,7 @@ fn chroma_line(page: &mut Page, c: Chromaticities)
     page.newline();
 }
 
+#[tactic(auto, using(page::specs::Laws::appends), unfolding(crate::specs::Lines::white_line))]
 fn white_line(page: &mut Page, w: WhitePoint)
     ensures { page.new ≡ page.old ▷ lines.white_line w }
 {
@@ -134,6 +143,7 @@ fn white_line(page: &mut Page, w: WhitePoint)
     page.newline();
 }
 
+#[tactic(auto, using(page::specs::Laws::appends), unfolding(page::specs::Words::each, crate::specs::Lines::white_lines))]
 fn white_lines(page: &mut Page, l: WhitePoints)
     ensures { page.new ≡ page.old ▷ lines.white_lines l }
 {
@@ -144,6 +154,7 @@ fn white_lines(page: &mut Page, l: WhitePoints)
 
 // ---- timings
 
+#[tactic(auto, using(page::specs::Laws::appends), unfolding(crate::specs::Lines::standard_line))]
 fn standard_line(page: &mut Page, t: StandardTiming)
     ensures { page.new ≡ page.old ▷ lines.standard_line t }
 {
@@ -154,6 +165,7 @@ fn standard_line(page: &mut Page, t: StandardTiming)
     page.newline();
 }
 
+#[tactic(auto, using(page::specs::Laws::appends), unfolding(page::specs::Words::each, crate::specs::Lines::standard_lines))]
 fn standard_lines(page: &mut Page, l: StandardTimings)
     ensures { page.new ≡ page.old ▷ lines.standard_lines l }
 {
@@ -164,6 +176,7 @@ fn standard_lines(page: &mut Page, l: StandardTimings)
 
 // ---- the whole
 
+#[tactic(auto, using(page::specs::Laws::appends), unfolding(crate::specs::Lines::accept_line))]
 fn accept_line(page: &mut Page, c: Cursor)
     ensures { page.new ≡ page.old ▷ lines.accept_line c }
 {
@@ -175,19 +188,19 @@ fn accept_line(page: &mut Page, c: Cursor)
 fn edid_lines(page: &mut Page, s: &[u8], e: EDID)
     ensures { page.new ≡ page.old ▷ lines.edid_lines s.now e }
 {
-    let flags = e.timings.established.items;
     product_line(page, e.product);
     shared_lines::version_line(page, e.version.version, e.version.revision);
     display_lines(page, e.display);
     chroma_line(page, e.color.basic);
     white_lines(page, e.color.points);
-    shared_lines::established_line(page, flags, e.timings.established.len);
+    shared_lines::established_line(page, e.timings.established.items, e.timings.established.len);
     standard_lines(page, e.timings.standard);
     crate_slot_lines::detailed_lines(page, e.timings.detailed);
     crate_slot_lines::descriptor_lines(page, s, e.descriptors);
     shared_lines::extensions_line(page, e.extensions);
 }
 
+#[tactic(auto, using(page::specs::Laws::appends), unfolding(crate::specs::Lines::ended_lines))]
 fn ended_lines(page: &mut Page, s: &[u8], e: EDID, end: End)
     ensures { page.new ≡ page.old ▷ lines.ended_lines s.now e end }
 {
@@ -204,7 +217,7 @@ fn ended_lines(page: &mut Page, s: &[u8], e: EDID, end: End)
 pub fn listing(out: &mut [u8; 4096], s: &[u8], t: Reading) -> usize
     ensures { (take result out.new ≡ lines.listing_of s.now t) × (drop result out.new ≡ drop result out.old) }
 {
-    page::size(out);
-    let end = t.end;
-    ended_lines(out, 0, s, t.edid, end)
+    let mut page = Page::new(out);
+    ended_lines(&mut page, s, t.edid, t.end);
+    page.len()
 }

@@ -47,3 +47,7 @@ pub only : (bs out p q : List ℕ) (m n : ℕ) → length bs < 4096 → length p
 only bs out p q m n h lp lq a b =
     let i : m ≡ n = omega (arith, ap length a.0, ap length b.0, length-take m p, length-take n q) in
     (i, sym (take-append-drop m p) ∙ (rw (a.0, a.1, i, ← b.0, ← b.1) (take-append-drop n q)))
+
+-- what a page ends as is what its caller finds there: the borrow is the one that was lent
+pub lent : (p q : Page) (bs : List ℕ) → q ≡ p ▷ bs → q.out.ghost_name ≡ p.out.ghost_name
+lent p q bs e = ap (λ (r : Page). r.out.ghost_name) e ∙ same_loan bs p
