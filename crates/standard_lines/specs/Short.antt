@@ -1,7 +1,8 @@
 -- The longest listing is below a page, so what is written of a page is the listing, whole.
 use Rattle.std.specs.Prelude.{ℕ, ◌≤◌, Bool, true, false, List, ◌≡◌, eqb, length, take, drop, Ok, Err, None, Option, Some}
 use Rattle.std.proofs.Common.{arith, length-append}
-use Rattle.page.specs.Page.{page, ◌▷◌}
+use Rattle.page.specs.declared.Page.{Page}
+use Rattle.page.specs.Page.{◌▷◌}
 use Rattle.page.specs.Words.{flat}
 use Rattle.page.specs.Short.{either, field32_length, field16_length, field8_length, flag_length, first_length}
 use Rattle.page.specs.Meaning.{whole, only}
@@ -202,9 +203,9 @@ pub short : (s : List ℕ) (t : StandardReading) → length (listing_of s t) ≤
 unfolding listing_of
 short s t = judged_length s t.edid t.end
 
-pub printed : (s : List ℕ) (t : StandardReading) (out out' : List ℕ) (n : ℕ) → length out ≡ 4096
-    → page out' n ≡ page out 0 ▷ listing_of s t → (take n out' ≡ listing_of s t) × (drop n out' ≡ drop n out)
-printed s t out out' n l e = let h = short s t in whole (listing_of s t) out out' n l (omega arith) e
+pub printed : (s : List ℕ) (t : StandardReading) (p q : Page) → length p.out.now ≡ 4096 → p.at ≡ 0 → q ≡ p ▷ listing_of s t
+    → (take q.at q.out.now ≡ listing_of s t) × (drop q.at q.out.now ≡ drop q.at p.out.now)
+printed s t p q l z e = let h = short s t in whole (listing_of s t) p q l z (omega arith) e
 
 -- what `standard_lines::listing` ensures leaves one count and one page
 pub one : (s : List ℕ) (t : StandardReading) (out p q : List ℕ) (m n : ℕ) → length p ≡ 4096 → length q ≡ 4096

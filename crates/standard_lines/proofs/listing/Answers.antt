@@ -1,4 +1,6 @@
 -- `standard_lines::listing` meets its contract: a listing is shorter than a page. Assumes nothing.
+use Rattle.std.proofs.Common.{rules}
+use Rattle.page.specs.Meaning.{lent}
 use Rattle.standard_lines.specs.Lines.{listing_of}
 use Rattle.standard_lines.specs.Short.{printed}
 use Rattle.standard_lines.proofs.listing.Goals as goal
@@ -6,4 +8,6 @@ use Rattle.standard_lines.proofs.listing.Goals as goal
 pub returns : goal.returns
 unfolding listing_of
 returns c =
-    printed _ c.args.t _ _ _ c.size.ensures.1 c.judged_lines.ensures
+    let same = lent _ _ _ c.judged_lines.ensures in
+    let whole = printed _ c.args.t _ _ (search rules) c.new-page.ensures.used (c.judged_lines.ensures) in
+    search rules
