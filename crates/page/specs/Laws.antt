@@ -129,7 +129,7 @@ pub turn : {A : Type 0} {p q : Page} (f : A → List ℕ) (s : List A) (i : ℕ)
 unfolding flat
 turn f s i d h c = rw (← each_more f s i d h) (rw append-nil at (line c))
 
-take_min : (l : List ℕ) (n : ℕ) → take (min n (length l)) l ≡ take n l
+pub take_min : (l : List ℕ) (n : ℕ) → take (min n (length l)) l ≡ take n l
 take_min l zero = rw (zero-min (length l))
 take_min [] (suc n) = rw (min-zero (suc n))
 take_min (x ∷ xs) (suc n) = rw (suc-min-suc n (length xs)) (ap (λ (r : List ℕ). x ∷ r) (take_min xs n))
@@ -138,7 +138,7 @@ take_min (x ∷ xs) (suc n) = rw (suc-min-suc n (length xs)) (ap (λ (r : List �
 take_cut : (l : List ℕ) (n i : ℕ) → i ≡ min n (length l) → take i l ≡ take n l
 take_cut l n i e = rw e (take_min l n)
 
-drop_min : (l : List ℕ) (n : ℕ) → drop (min n (length l)) l ≡ drop n l
+pub drop_min : (l : List ℕ) (n : ℕ) → drop (min n (length l)) l ≡ drop n l
 drop_min l zero = rw (zero-min (length l))
 drop_min [] (suc n) = rw (min-zero (suc n))
 drop_min (x ∷ xs) (suc n) = rw (suc-min-suc n (length xs)) (drop_min xs n)

@@ -1,7 +1,8 @@
 -- The longest text is below a page, so what is written of a page is the text, whole.
 use Rattle.std.specs.Prelude.{ℕ, ◌+◌, ◌≤◌, List, [], ◌∷◌, ◌≡◌, length, take, drop, Ok, Err}
 use Rattle.std.proofs.Common.{arith, length-append}
-use Rattle.page.specs.Page.{page, ◌▷◌}
+use Rattle.page.specs.declared.Page.{Page}
+use Rattle.page.specs.Page.{◌▷◌}
 use Rattle.page.specs.Words.{text, field16, decimal_in, flat, each}
 use Rattle.page.specs.Short.{either, field16_length, byte_length, first_length}
 use Rattle.page.specs.Meaning.{whole, only}
@@ -64,9 +65,9 @@ pub short : (s : List ℕ) (t : StandardReading) → length (panel_text s t) ≤
 unfolding panel_text
 short s t = judged_length s t.edid t.end
 
-pub printed : (s : List ℕ) (t : StandardReading) (out out' : List ℕ) (n : ℕ) → length out ≡ 4096
-    → page out' n ≡ page out 0 ▷ panel_text s t → (take n out' ≡ panel_text s t) × (drop n out' ≡ drop n out)
-printed s t out out' n l e = let h = short s t in whole (panel_text s t) out out' n l (omega arith) e
+pub printed : (s : List ℕ) (t : StandardReading) (p q : Page) → length p.out.now ≡ 4096 → p.at ≡ 0 → q ≡ p ▷ panel_text s t
+    → (take q.at q.out.now ≡ panel_text s t) × (drop q.at q.out.now ≡ drop q.at p.out.now)
+printed s t p q l z e = let h = short s t in whole (panel_text s t) p q l z (omega arith) e
 
 -- what `panel_lines::panel` ensures leaves one count and one page
 pub one : (s : List ℕ) (t : StandardReading) (out p q : List ℕ) (m n : ℕ) → length p ≡ 4096 → length q ≡ 4096

@@ -1,113 +1,114 @@
 // The text of a panel, written to a page that the caller lends.
 #![tactic(auto)]
 
-ghost use Rattle.std.specs.Prelude.{◌≡◌, take, drop};
-ghost use Rattle.page.specs.Page.{page, ◌▷◌};
+ghost use Rattle.std.specs.Prelude.{min, ◌≡◌, take, drop};
+ghost use Rattle.page.specs.Page.{◌▷◌};
 ghost use Rattle.page.specs.Words.{each};
 ghost use Rattle.panel_lines.specs.Lines as lines;
 
+use page::Page;
 use standard_record::{Descriptor, Descriptors, Held, StandardReading, StandardRecord, Verdict};
 use steps::Span;
 
 // ---- a text
 
-fn text_byte(out: &mut [u8; 4096], at: usize, b: u8) -> usize
-    ensures { page out.new result ≡ page out.old at ▷ lines.text_byte b }
+#[tactic(auto, using(page::specs::Laws::appends), unfolding(crate::specs::Lines::text_byte))]
+fn text_byte(page: &mut Page, b: u8)
+    ensures { page.new ≡ page.old ▷ lines.text_byte b }
 {
     if text_words::is_plain(b) {
-        page::put(out, at, b)
+        page.put(b);
     } else {
-        let run = [b];
-        let n = page::bytes(out, at, b"\\x");
-        page::hex_span(out, n, &run, 0, 1)
+        page.bytes(b"\\x");
+        page.hex_span(&[b], 0, 1);
     }
 }
 
-fn text_bytes(out: &mut [u8; 4096], at: usize, t: &[u8]) -> usize
-    ensures { page out.new result ≡ page out.old at ▷ each lines.text_byte t.now }
+#[tactic(auto, using(page::specs::Laws::appends), unfolding(page::specs::Words::each))]
+fn text_bytes(page: &mut Page, t: &[u8])
+    ensures { page.new ≡ page.old ▷ each lines.text_byte t.now }
 {
-    let mut n = at;
-    let mut i = 0;
-    while i < t.len() {
-        n = text_byte(out, n, t[i]);
-        i += 1;
+    for b in t {
+        text_byte(page, *b);
     }
-    n
 }
 
-fn quoted(out: &mut [u8; 4096], at: usize, t: &[u8]) -> usize
-    ensures { page out.new result ≡ page out.old at ▷ lines.quoted t.now }
+#[tactic(auto, using(page::specs::Laws::appends), unfolding(crate::specs::Lines::quoted))]
+fn quoted(page: &mut Page, t: &[u8])
+    ensures { page.new ≡ page.old ▷ lines.quoted t.now }
 {
-    let mut n = page::put(out, at, b'"');
-    n = text_bytes(out, n, t);
-    page::put(out, n, b'"')
+    page.put(b'"');
+    text_bytes(page, t);
+    page.put(b'"');
 }
 
 // ---- a descriptor
 
-fn quoted_fields(out: &mut [u8; 4096], at: usize, word: &[u8], s: &[u8], d: Span) -> usize
-    ensures { page out.new result ≡ page out.old at ▷ lines.quoted_fields word.now s.now d }
+// The bytes of a text, of which a slot holds 13 at most.
+fn text_of(s: &[u8], d: Span) -> &[u8]
+    ensures { result.now ≡ take (min d.len 13) (drop d.start s.now) }
 {
-    let len = page::least(d.len, 13);
-    let from = page::least(d.start, s.len());
-    let count = page::least(len, s.len() - from);
-    let end = from + count;
-    let mut n = page::bytes(out, at, word);
-    n = page::space(out, n);
-    quoted(out, n, &s[from..end])
+    let rest = &s[d.start.min(s.len())..];
+    &rest[..d.len.min(13).min(rest.len())]
 }
 
-fn entry_fields(out: &mut [u8; 4096], at: usize, s: &[u8], t: Descriptor) -> usize
-    ensures { page out.new result ≡ page out.old at ▷ lines.entry_fields s.now t }
+#[tactic(auto, using(page::specs::Laws::appends), unfolding(crate::specs::Lines::quoted_fields))]
+fn quoted_fields(page: &mut Page, word: &[u8], s: &[u8], d: Span)
+    ensures { page.new ≡ page.old ▷ lines.quoted_fields word.now s.now d }
+{
+    page.bytes(word);
+    page.space();
+    quoted(page, text_of(s, d));
+}
+
+#[tactic(auto, using(page::specs::Laws::appends), unfolding(crate::specs::Lines::entry_fields))]
+fn entry_fields(page: &mut Page, s: &[u8], t: Descriptor)
+    ensures { page.new ≡ page.old ▷ lines.entry_fields s.now t }
 {
     match t {
-        Descriptor::Serial(d) => quoted_fields(out, at, b"serial", s, d),
-        Descriptor::Text(d) => quoted_fields(out, at, b"text", s, d),
-        Descriptor::Name(d) => quoted_fields(out, at, b"name", s, d),
-        _ => standard_slot_lines::descriptor_fields(out, at, s, t),
+        Descriptor::Serial(d) => quoted_fields(page, b"serial", s, d),
+        Descriptor::Text(d) => quoted_fields(page, b"text", s, d),
+        Descriptor::Name(d) => quoted_fields(page, b"name", s, d),
+        _ => standard_slot_lines::descriptor_fields(page, s, t),
     }
 }
 
-fn entry_line(out: &mut [u8; 4096], at: usize, s: &[u8], h: Held) -> usize
-    ensures { page out.new result ≡ page out.old at ▷ lines.entry_line s.now h }
+#[tactic(auto, using(page::specs::Laws::appends), unfolding(crate::specs::Lines::entry_line))]
+fn entry_line(page: &mut Page, s: &[u8], h: Held)
+    ensures { page.new ≡ page.old ▷ lines.entry_line s.now h }
 {
-    // an enum that is a field is copied before it is passed
-    let t = h.descriptor;
-    let mut n = entry_fields(out, at, s, t);
-    n = page::field16(out, n, h.slot);
-    page::newline(out, n)
+    entry_fields(page, s, h.descriptor);
+    page.field(h.slot);
+    page.newline();
 }
 
-fn entry_lines(out: &mut [u8; 4096], at: usize, s: &[u8], l: Descriptors) -> usize
-    ensures { page out.new result ≡ page out.old at ▷ lines.entry_lines s.now l }
+#[tactic(auto, using(page::specs::Laws::appends), unfolding(page::specs::Words::each, crate::specs::Lines::entry_lines))]
+fn entry_lines(page: &mut Page, s: &[u8], l: Descriptors)
+    ensures { page.new ≡ page.old ▷ lines.entry_lines s.now l }
 {
-    let items = l.items;
-    let count = page::least(l.len, 3);
-    let mut n = at;
-    let mut i = 0;
-    while i < count {
-        n = entry_line(out, n, s, items[i]);
-        i += 1;
+    for x in &l.items[..l.len.min(3)] {
+        entry_line(page, s, *x);
     }
-    n
 }
 
 // ---- the whole
 
-fn panel_lines(out: &mut [u8; 4096], at: usize, s: &[u8], e: StandardRecord) -> usize
-    ensures { page out.new result ≡ page out.old at ▷ lines.panel_lines s.now e }
+#[tactic(auto, using(page::specs::Laws::appends), unfolding(crate::specs::Lines::panel_lines))]
+fn panel_lines(page: &mut Page, s: &[u8], e: StandardRecord)
+    ensures { page.new ≡ page.old ▷ lines.panel_lines s.now e }
 {
-    let mut n = standard_lines::main_lines(out, at, e);
-    n = entry_lines(out, n, s, e.descriptors);
-    shared_lines::extensions_line(out, n, e.extensions)
+    standard_lines::main_lines(page, e);
+    entry_lines(page, s, e.descriptors);
+    shared_lines::extensions_line(page, e.extensions);
 }
 
-fn judged_text(out: &mut [u8; 4096], at: usize, s: &[u8], e: StandardRecord, end: Verdict) -> usize
-    ensures { page out.new result ≡ page out.old at ▷ lines.judged_text s.now e end }
+#[tactic(auto, using(page::specs::Laws::appends), unfolding(crate::specs::Lines::judged_text))]
+fn judged_text(page: &mut Page, s: &[u8], e: StandardRecord, end: Verdict)
+    ensures { page.new ≡ page.old ▷ lines.judged_text s.now e end }
 {
     match end {
-        Ok(()) => panel_lines(out, at, s, e),
-        Err(f) => shared_lines::refuse_line(out, at, f),
+        Ok(()) => panel_lines(page, s, e),
+        Err(f) => shared_lines::refuse_line(page, f),
     }
 }
 
@@ -115,7 +116,7 @@ fn judged_text(out: &mut [u8; 4096], at: usize, s: &[u8], e: StandardRecord, end
 pub fn panel(out: &mut [u8; 4096], s: &[u8], t: StandardReading) -> usize
     ensures { (take result out.new ≡ lines.panel_text s.now t) × (drop result out.new ≡ drop result out.old) }
 {
-    page::size(out);
-    let end = t.end;
-    judged_text(out, 0, s, t.edid, end)
+    let mut page = Page::new(out);
+    judged_text(&mut page, s, t.edid, t.end);
+    page.len()
 }

@@ -1,4 +1,6 @@
 -- `panel_lines::panel` meets its contract: a text is shorter than a page. Assumes nothing.
+use Rattle.std.proofs.Common.{rules}
+use Rattle.page.specs.Meaning.{lent}
 use Rattle.panel_lines.specs.Lines.{panel_text}
 use Rattle.panel_lines.specs.Short.{printed}
 use Rattle.panel_lines.proofs.panel.Goals as goal
@@ -6,4 +8,6 @@ use Rattle.panel_lines.proofs.panel.Goals as goal
 pub returns : goal.returns
 unfolding panel_text
 returns c =
-    printed _ c.args.t _ _ _ c.size.ensures.1 c.judged_text.ensures
+    let same = lent _ _ _ c.judged_text.ensures in
+    let whole = printed _ c.args.t _ _ (search rules) c.new-page.ensures.used (c.judged_text.ensures) in
+    search rules

@@ -1,14 +1,9 @@
--- `panel_lines::text_bytes` meets its contract. The invariant: the first i bytes of t are written. Assumes nothing.
-use Prim.Native.Nat.{◌≤◌, ◌-◌}
-use mathlib.Core.Path.{◌≡◌}
-use lib.ListN.{length, take}
-use Rattle.page.specs.Page.{page, ◌▷◌}
+-- `panel_lines::text_bytes` meets its contract. The invariant: the lines of the list's elements so far are appended. Assumes nothing.
+use Rattle.std.proofs.Common.{◌≡◌, take}
+use Rattle.page.specs.Page.{◌▷◌}
 use Rattle.page.specs.Words.{each}
 use Rattle.panel_lines.specs.Lines.{text_byte}
 use Rattle.panel_lines.proofs.text_bytes.Given as goal
 
-abbrev pub invariant-loop-i : goal.invariant-loop-i
-invariant-loop-i l = (l.i ≤ length l.t) × (page l.out l.n ≡ page l.initial.out l.at ▷ each text_byte (take l.i l.t))
-
-abbrev pub decreases-loop-i : goal.decreases-loop-i
-decreases-loop-i l = length l.t - l.i
+abbrev pub invariant-loop-b : goal.invariant-loop-b
+invariant-loop-b l = l.page ≡ l.initial.page ▷ each text_byte (take l.b-index l.t)
