@@ -4,7 +4,8 @@ use Rattle.std.specs.Prelude.{Bool, true, false, cond, ◌≡◌, refl, eqb, len
 use mathlib.Core.List.{List, [], ◌∷◌, ◌++◌, flat_map}
 use native.Mathlib.Omega.{arith}
 use Rattle.std.proofs.Math.ListN.{length-append}
-use Rattle.page.specs.Page.{page, ◌▷◌}
+use Rattle.page.specs.declared.Page.{Page}
+use Rattle.page.specs.Page.{◌▷◌}
 use Rattle.page.specs.Words.{space, hex_of2, field8, flat, each}
 use Rattle.page.specs.Short.{field8_length, byte_length, first_length}
 use Rattle.page.specs.Meaning.{whole, only}
@@ -100,9 +101,9 @@ short s = go (cta_of s).end refl
     go (Ok tt) e = rw (record_is s e) (omega (arith, record_length s e, length-append (record_lines s (holding (plain s))) []))
     go (Err f) e = omega (arith, refuse_length f)
 
-pub printed : (s : List ℕ) (out out' : List ℕ) (n : ℕ) → length out ≡ 4096
-    → page out' n ≡ page out 0 ▷ listing_of s → (take n out' ≡ listing_of s) × (drop n out' ≡ drop n out)
-printed s out out' n l e = let h = short s in whole (listing_of s) out out' n l (omega arith) e
+pub printed : (s : List ℕ) (p q : Page) → length p.out.now ≡ 4096 → p.at ≡ 0 → q ≡ p ▷ listing_of s
+    → (take q.at q.out.now ≡ listing_of s) × (drop q.at q.out.now ≡ drop q.at p.out.now)
+printed s p q l z e = let h = short s in whole (listing_of s) p q l z (omega arith) e
 
 -- what `cta_lines::listing` ensures leaves one count and one page
 pub one_listing : (s out p q : List ℕ) (m n : ℕ) → length p ≡ 4096 → length q ≡ 4096

@@ -2,112 +2,107 @@
 #![tactic(auto)]
 
 ghost use Rattle.std.specs.Prelude.{◌≡◌, take, drop};
-ghost use Rattle.page.specs.Page.{page, ◌▷◌};
+ghost use Rattle.page.specs.Page.{◌▷◌};
 ghost use Rattle.cta_lines.specs.Lines as lines;
 
 use cta_record::{Cta, CtaTimings, DataBlock, DataBlocks, VideoDescriptors};
+use page::Page;
 use standard_record::{DetailedTiming, Verdict};
 use steps::Span;
 
-fn head_line(out: &mut [u8; 4096], at: usize, revision: u8, offset: u8, support: u8) -> usize
-    ensures { page out.new result ≡ page out.old at ▷ lines.head_line revision offset support }
+#[tactic(auto, using(page::specs::Laws::appends), unfolding(crate::specs::Lines::head_line))]
+fn head_line(page: &mut Page, revision: u8, offset: u8, support: u8)
+    ensures { page.new ≡ page.old ▷ lines.head_line revision offset support }
 {
-    let mut n = page::bytes(out, at, b"cta");
-    n = page::field8(out, n, revision);
-    n = page::field8(out, n, offset);
-    n = page::field8(out, n, support);
-    page::newline(out, n)
+    page.bytes(b"cta");
+    page.field(revision);
+    page.field(offset);
+    page.field(support);
+    page.newline();
 }
 
-fn video_line(out: &mut [u8; 4096], at: usize, l: VideoDescriptors) -> usize
-    ensures { page out.new result ≡ page out.old at ▷ lines.video_line l }
+#[tactic(auto, using(page::specs::Laws::appends), unfolding(crate::specs::Lines::video_line))]
+fn video_line(page: &mut Page, l: VideoDescriptors)
+    ensures { page.new ≡ page.old ▷ lines.video_line l }
 {
-    let items = l.items;
-    let count = page::least(l.len, 119);
-    let mut n = page::bytes(out, at, b"video");
-    n = shared_lines::numbers(out, n, &items[..count]);
-    page::newline(out, n)
+    page.bytes(b"video");
+    shared_lines::numbers(page, &l.items[..l.len.min(119)]);
+    page.newline();
 }
 
 // ---- data blocks
 
 // The bytes of a block; nothing where there are none.
-fn run_field(out: &mut [u8; 4096], at: usize, s: &[u8], d: Span) -> usize
-    ensures { page out.new result ≡ page out.old at ▷ lines.run_field s.now d }
+#[tactic(auto, using(page::specs::Laws::appends), unfolding(crate::specs::Lines::run_field))]
+fn run_field(page: &mut Page, s: &[u8], d: Span)
+    ensures { page.new ≡ page.old ▷ lines.run_field s.now d }
 {
-    if d.len == 0 {
-        return at;
+    if d.len != 0 {
+        page.space();
+        page.hex_span(s, d.start, d.len);
     }
-    let n = page::space(out, at);
-    page::hex_span(out, n, s, d.start, d.len)
 }
 
-fn block_line(out: &mut [u8; 4096], at: usize, s: &[u8], b: DataBlock) -> usize
-    ensures { page out.new result ≡ page out.old at ▷ lines.block_line s.now b }
+#[tactic(auto, using(page::specs::Laws::appends), unfolding(crate::specs::Lines::block_line))]
+fn block_line(page: &mut Page, s: &[u8], b: DataBlock)
+    ensures { page.new ≡ page.old ▷ lines.block_line s.now b }
 {
-    let mut n = page::bytes(out, at, b"block");
-    n = page::field8(out, n, b.tag);
-    n = run_field(out, n, s, b.run);
-    page::newline(out, n)
+    page.bytes(b"block");
+    page.field(b.tag);
+    run_field(page, s, b.run);
+    page.newline();
 }
 
-fn block_lines(out: &mut [u8; 4096], at: usize, s: &[u8], l: DataBlocks) -> usize
-    ensures { page out.new result ≡ page out.old at ▷ lines.block_lines s.now l }
+#[tactic(auto, using(page::specs::Laws::appends), unfolding(page::specs::Words::each, crate::specs::Lines::block_lines))]
+fn block_lines(page: &mut Page, s: &[u8], l: DataBlocks)
+    ensures { page.new ≡ page.old ▷ lines.block_lines s.now l }
 {
-    let items = l.items;
-    let count = page::least(l.len, 123);
-    let mut n = at;
-    let mut i = 0;
-    while i < count {
-        n = block_line(out, n, s, items[i]);
-        i += 1;
+    for x in &l.items[..l.len.min(123)] {
+        block_line(page, s, *x);
     }
-    n
 }
 
 // ---- timings
 
-fn timing_line(out: &mut [u8; 4096], at: usize, d: DetailedTiming) -> usize
-    ensures { page out.new result ≡ page out.old at ▷ lines.timing_line d }
+#[tactic(auto, using(page::specs::Laws::appends), unfolding(crate::specs::Lines::timing_line))]
+fn timing_line(page: &mut Page, d: DetailedTiming)
+    ensures { page.new ≡ page.old ▷ lines.timing_line d }
 {
-    let n = standard_slot_lines::timing_fields(out, at, d);
-    page::newline(out, n)
+    standard_slot_lines::timing_fields(page, d);
+    page.newline();
 }
 
-fn timing_lines(out: &mut [u8; 4096], at: usize, l: CtaTimings) -> usize
-    ensures { page out.new result ≡ page out.old at ▷ lines.timing_lines l }
+#[tactic(auto, using(page::specs::Laws::appends), unfolding(page::specs::Words::each, crate::specs::Lines::timing_lines))]
+fn timing_lines(page: &mut Page, l: CtaTimings)
+    ensures { page.new ≡ page.old ▷ lines.timing_lines l }
 {
-    let items = l.items;
-    let count = page::least(l.len, 6);
-    let mut n = at;
-    let mut i = 0;
-    while i < count {
-        n = timing_line(out, n, items[i]);
-        i += 1;
+    for x in &l.items[..l.len.min(6)] {
+        timing_line(page, *x);
     }
-    n
 }
 
 // ---- the whole
 
-fn record_lines(out: &mut [u8; 4096], at: usize, s: &[u8], c: Cta) -> usize
-    ensures { page out.new result ≡ page out.old at ▷ lines.record_lines s.now c }
+#[tactic(auto, using(page::specs::Laws::appends), unfolding(crate::specs::Lines::record_lines))]
+fn record_lines(page: &mut Page, s: &[u8], c: Cta)
+    ensures { page.new ≡ page.old ▷ lines.record_lines s.now c }
 {
-    let mut n = head_line(out, at, c.revision, c.offset, c.support);
-    n = video_line(out, n, c.video);
-    n = block_lines(out, n, s, c.blocks);
-    timing_lines(out, n, c.timings)
+    head_line(page, c.revision, c.offset, c.support);
+    video_line(page, c.video);
+    block_lines(page, s, c.blocks);
+    timing_lines(page, c.timings);
 }
 
-fn judged_lines(out: &mut [u8; 4096], at: usize, s: &[u8], c: Cta, end: Verdict) -> usize
-    ensures { page out.new result ≡ page out.old at ▷ lines.judged_lines s.now c end }
+#[tactic(auto, using(page::specs::Laws::appends), unfolding(crate::specs::Lines::judged_lines))]
+fn judged_lines(page: &mut Page, s: &[u8], c: Cta, end: Verdict)
+    ensures { page.new ≡ page.old ▷ lines.judged_lines s.now c end }
 {
     match end {
         Ok(()) => {
-            let n = page::bytes(out, at, b"accept\n");
-            record_lines(out, n, s, c)
+            page.bytes(b"accept\n");
+            record_lines(page, s, c);
         }
-        Err(f) => shared_lines::refuse_line(out, at, f),
+        Err(f) => shared_lines::refuse_line(page, f),
     }
 }
 
@@ -115,8 +110,8 @@ fn judged_lines(out: &mut [u8; 4096], at: usize, s: &[u8], c: Cta, end: Verdict)
 pub fn listing(out: &mut [u8; 4096], s: &[u8]) -> usize
     ensures { (take result out.new ≡ lines.listing_of s.now) × (drop result out.new ≡ drop result out.old) }
 {
-    page::size(out);
     let t = cta_reading::read_cta(s);
-    let end = t.end;
-    judged_lines(out, 0, s, t.cta, end)
+    let mut page = Page::new(out);
+    judged_lines(&mut page, s, t.cta, t.end);
+    page.len()
 }

@@ -1,14 +1,9 @@
--- `cta_lines::timing_lines` meets its contract. The invariant: the lines of the first i of the list are appended. Assumes nothing.
-use Prim.Native.Nat.{◌≤◌, ◌-◌}
-use mathlib.Core.Path.{◌≡◌}
-use lib.ListN.{take}
-use Rattle.page.specs.Page.{page, ◌▷◌}
+-- `cta_lines::timing_lines` meets its contract. The invariant: the lines of the list's elements so far are appended. Assumes nothing.
+use Rattle.std.proofs.Common.{◌≡◌, take}
+use Rattle.page.specs.Page.{◌▷◌}
 use Rattle.page.specs.Words.{each}
 use Rattle.cta_lines.specs.Lines.{timing_line}
 use Rattle.cta_lines.proofs.timing_lines.Given as goal
 
-abbrev pub invariant-loop-i : goal.invariant-loop-i
-invariant-loop-i l = (l.i ≤ l.count) × (page l.out l.n ≡ page l.initial.out l.initial.n ▷ each timing_line (take l.i l.items))
-
-abbrev pub decreases-loop-i : goal.decreases-loop-i
-decreases-loop-i l = l.count - l.i
+abbrev pub invariant-loop-x : goal.invariant-loop-x
+invariant-loop-x l = l.page ≡ l.initial.page ▷ each timing_line (take l.x-index l.x-items)
