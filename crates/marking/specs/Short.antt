@@ -1,7 +1,8 @@
 -- Every listing of marks is shorter than a page.
 use Rattle.std.specs.Prelude.{ℕ, suc, ◌≤◌, Bool, true, false, not, List, ◌≡◌, length, take, drop}
 use Rattle.std.proofs.Common.{arith, length-append}
-use Rattle.page.specs.Page.{page, ◌▷◌}
+use Rattle.page.specs.declared.Page.{Page}
+use Rattle.page.specs.Page.{◌▷◌}
 use Rattle.page.specs.Words.{text, flat}
 use Rattle.page.specs.Meaning.{whole, only}
 use Rattle.marking.specs.declared.Marks.{Marks}
@@ -27,9 +28,9 @@ short m =
       line_length_lem (not (one_of m)) (text "none"),
     ))
 
-pub printed : (m : Marks) (out out' : List ℕ) (n : ℕ) → length out ≡ 4096
-    → page out' n ≡ page out 0 ▷ marks_lines m → (take n out' ≡ marks_lines m) × (drop n out' ≡ drop n out)
-printed m out out' n l e = let h = short m in whole (marks_lines m) out out' n l (omega arith) e
+pub printed : (m : Marks) (p q : Page) → length p.out.now ≡ 4096 → p.at ≡ 0 → q ≡ p ▷ marks_lines m
+    → (take q.at q.out.now ≡ marks_lines m) × (drop q.at q.out.now ≡ drop q.at p.out.now)
+printed m p q l z e = let h = short m in whole (marks_lines m) p q l z (omega arith) e
 
 -- what `marking::listing` ensures leaves one count and one page
 pub one_listing : (m : Marks) (out p q : List ℕ) (i j : ℕ) → length p ≡ 4096 → length q ≡ 4096

@@ -2,10 +2,12 @@
 #![tactic(auto)]
 
 ghost use Rattle.std.specs.Prelude.{◌≡◌, ◌||◌, take, drop};
-ghost use Rattle.page.specs.Page.{page, ◌▷◌};
+ghost use Rattle.page.specs.Page.{◌▷◌};
 ghost use Rattle.marking.specs.Marks.{clockless, tagged, active_low_zero, index_zero, gamma_ff, code_zero, codes_zero, marks_in};
 ghost use Rattle.marking.specs.Laws.{with_slot, in_block};
 ghost use Rattle.marking.specs.Lines as lines;
+
+use page::Page;
 
 // A clock with an active low byte of zero; tag 10; a white point of index 0; one of gamma ff; ratio code 0 in a listed pair below revision 3; revision 4 or
 // above.
@@ -151,14 +153,13 @@ pub fn marks_of(s: &[u8]) -> Marks
 // ---- the words
 
 // A word on a line of its own where b holds.
-fn line_if(out: &mut [u8; 4096], at: usize, b: bool, word: &[u8]) -> usize
-    ensures { page out.new result ≡ page out.old at ▷ lines.line_if b word.now }
+#[tactic(auto, using(page::specs::Laws::appends), unfolding(crate::specs::Lines::line_if))]
+fn line_if(page: &mut Page, b: bool, word: &[u8])
+    ensures { page.new ≡ page.old ▷ lines.line_if b word.now }
 {
     if b {
-        let n = page::bytes(out, at, word);
-        page::newline(out, n)
-    } else {
-        at
+        page.bytes(word);
+        page.newline();
     }
 }
 
@@ -174,22 +175,24 @@ fn one_of(m: Marks) -> bool
     )
 }
 
-fn marks_lines(out: &mut [u8; 4096], at: usize, m: Marks) -> usize
-    ensures { page out.new result ≡ page out.old at ▷ lines.marks_lines m }
+#[tactic(auto, using(page::specs::Laws::appends), unfolding(crate::specs::Lines::marks_lines))]
+fn marks_lines(page: &mut Page, m: Marks)
+    ensures { page.new ≡ page.old ▷ lines.marks_lines m }
 {
-    let mut n = line_if(out, at, m.active, b"active-low-zero");
-    n = line_if(out, n, m.dummy, b"tag-10");
-    n = line_if(out, n, m.index, b"white-index-0");
-    n = line_if(out, n, m.gamma, b"white-gamma-ff");
-    n = line_if(out, n, m.ratio, b"old-ratio-0");
-    n = line_if(out, n, m.revision, b"revision-4");
-    line_if(out, n, !one_of(m), b"none")
+    line_if(page, m.active, b"active-low-zero");
+    line_if(page, m.dummy, b"tag-10");
+    line_if(page, m.index, b"white-index-0");
+    line_if(page, m.gamma, b"white-gamma-ff");
+    line_if(page, m.ratio, b"old-ratio-0");
+    line_if(page, m.revision, b"revision-4");
+    line_if(page, !one_of(m), b"none");
 }
 
 // Lists the marks of a block. Every listing fits a page: the first r bytes are all of it, and the rest of the page is as it was.
 pub fn listing(out: &mut [u8; 4096], block: &[u8]) -> usize
     ensures { (take result out.new ≡ lines.marks_lines (marks_in block.now)) × (drop result out.new ≡ drop result out.old) }
 {
-    page::size(out);
-    marks_lines(out, 0, marks_of(block))
+    let mut page = Page::new(out);
+    marks_lines(&mut page, marks_of(block));
+    page.len()
 }

@@ -1,7 +1,8 @@
 -- Every line is shorter than a page.
 use Rattle.std.specs.Prelude.{ℕ, ◌≤◌, ◌≡◌, List, [], ◌∷◌, length, take, drop}
 use Rattle.std.proofs.Common.{arith, length-append, length-take, take_all}
-use Rattle.page.specs.Page.{page, ◌▷◌}
+use Rattle.page.specs.declared.Page.{Page}
+use Rattle.page.specs.Page.{◌▷◌}
 use Rattle.page.specs.Words.{text, hex_of2, flat, each}
 use Rattle.page.specs.Short.{field_length, byte_length, first_length}
 use Rattle.page.specs.Meaning.{whole, only}
@@ -32,9 +33,9 @@ answer_length p q = go (name_of p) (name_of q) (sound_name p) (sound_name q)
     go Not (By t) h k = line_length_lem (text "reference") t.start _ (omega arith) (omega (arith, k.0.short, length-take t.len (drop t.start q)))
     go Not Not h k = omega arith
 
-pub printed : (p q out out' : List ℕ) (n : ℕ) → length out ≡ 4096
-    → page out' n ≡ page out 0 ▷ answer p q → (take n out' ≡ answer p q) × (drop n out' ≡ drop n out)
-printed p q out out' n l e = whole (answer p q) out out' n l (omega (arith, answer_length p q)) e
+pub printed : (a b : List ℕ) (p q : Page) → length p.out.now ≡ 4096 → p.at ≡ 0 → q ≡ p ▷ answer a b
+    → (take q.at q.out.now ≡ answer a b) × (drop q.at q.out.now ≡ drop q.at p.out.now)
+printed a b p q l z e = whole (answer a b) p q l z (omega (arith, answer_length a b)) e
 
 -- what `name_lines::listing` ensures leaves one count and one page
 pub one_answer : (p q out o o' : List ℕ) (m n : ℕ) → length o ≡ 4096 → length o' ≡ 4096

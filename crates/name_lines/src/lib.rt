@@ -2,49 +2,50 @@
 #![tactic(auto)]
 
 ghost use Rattle.std.specs.Prelude.{◌≡◌, take, drop};
-ghost use Rattle.page.specs.Page.{page, ◌▷◌};
+ghost use Rattle.page.specs.Page.{◌▷◌};
 ghost use Rattle.name_lines.specs.Lines as lines;
 
+use page::Page;
+
 // A space, and the bytes in hexadecimal; of none nothing.
-fn run(out: &mut [u8; 4096], at: usize, name: &[u8]) -> usize
-    ensures { page out.new result ≡ page out.old at ▷ lines.run name.now }
+#[tactic(auto, using(page::specs::Laws::appends), unfolding(crate::specs::Lines::run))]
+fn run(page: &mut Page, name: &[u8])
+    ensures { page.new ≡ page.old ▷ lines.run name.now }
 {
-    if name.len() == 0 {
-        return at;
+    if !name.is_empty() {
+        page.space();
+        page.hex_span(name, 0, name.len());
     }
-    let n = page::space(out, at);
-    page::hex_span(out, n, name, 0, name.len())
 }
 
-fn name_line(out: &mut [u8; 4096], whose: &[u8], start: usize, name: &[u8]) -> usize
-    ensures { page out.new result ≡ page out.old 0 ▷ lines.name_line whose.now start name.now }
+#[tactic(auto, using(page::specs::Laws::appends), unfolding(crate::specs::Lines::name_line))]
+fn name_line(page: &mut Page, whose: &[u8], start: usize, name: &[u8])
+    ensures { page.new ≡ page.old ▷ lines.name_line whose.now start name.now }
 {
-    let mut n = page::bytes(out, 0, whose);
-    n = page::field(out, n, start);
-    n = page::field(out, n, name.len());
-    n = run(out, n, name);
-    page::newline(out, n)
+    page.bytes(whose);
+    page.field(start);
+    page.field(name.len());
+    run(page, name);
+    page.newline();
 }
 
-fn shown_line<'a>(out: &mut [u8; 4096], panel: &'a [u8], reference: &'a [u8]) -> usize
-    ensures { page out.new result ≡ page out.old 0 ▷ lines.answer panel.now reference.now }
+fn shown_line<'a>(page: &mut Page, panel: &'a [u8], reference: &'a [u8])
+    ensures { page.new ≡ page.old ▷ lines.answer panel.now reference.now }
 {
-    let number = naming::number(panel, reference);
     let start = naming::start(panel, reference);
     let name = naming::name(panel, reference);
-    if number == 0 {
-        return name_line(out, b"panel", start, name);
+    match naming::number(panel, reference) {
+        0 => name_line(page, b"panel", start, name),
+        1 => name_line(page, b"reference", start, name),
+        _ => page.bytes(b"refuse 18\n"),
     }
-    if number == 1 {
-        return name_line(out, b"reference", start, name);
-    }
-    page::bytes(out, 0, b"refuse 18\n")
 }
 
 // Every line fits a page: the first r bytes are all of it, and the rest of the page is as it was.
 pub fn listing<'a>(out: &mut [u8; 4096], panel: &'a [u8], reference: &'a [u8]) -> usize
     ensures { (take result out.new ≡ lines.answer panel.now reference.now) × (drop result out.new ≡ drop result out.old) }
 {
-    page::size(out);
-    shown_line(out, panel, reference)
+    let mut page = Page::new(out);
+    shown_line(&mut page, panel, reference);
+    page.len()
 }

@@ -2,7 +2,7 @@
 // block that is refused, or a line that is no such line, is answered as there.
 #![tactic(auto)]
 
-use pick_lines::Asked;
+use page::Page;
 use picking::Limits;
 use standard_record::DetailedTimings;
 use std::io;
@@ -12,22 +12,22 @@ fn main(rt: HostRuntime) -> io::Result<()> {
 }
 
 fn check(out: &mut [u8; 4096], s: &[u8]) -> usize {
-    let Asked::Is { limits, block } = pick_lines::limits_in(s) else {
+    let Some(asked) = pick_lines::limits_in(s) else {
         return pick_lines::listing(out, s);
     };
-    let r = standard_reading::read_standard(&s[block..]);
-    let end = r.end;
-    match end {
-        Err(f) => shared_lines::refuse_line(out, 0, f),
-        Ok(()) => flags(out, limits, r.edid.timings.detailed),
+    let r = standard_reading::read_standard(&s[asked.block..]);
+    let mut page = Page::new(out);
+    match r.end {
+        Err(f) => shared_lines::refuse_line(&mut page, f),
+        Ok(()) => flags(&mut page, asked.limits, r.edid.timings.detailed),
     }
+    page.len()
 }
 
-fn flags(out: &mut [u8; 4096], limits: Limits, list: DetailedTimings) -> usize {
-    let mut n = page::bytes(out, 0, b"accepts");
+fn flags(page: &mut Page, limits: Limits, list: DetailedTimings) {
+    page.bytes(b"accepts");
     for i in 0..8 {
-        let accepted = picking::accepts(limits, list, i);
-        n = page::flag(out, n, accepted);
+        page.flag(picking::accepts(limits, list, i));
     }
-    page::newline(out, n)
+    page.newline();
 }

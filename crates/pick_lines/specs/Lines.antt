@@ -1,5 +1,5 @@
 -- What the program `pick` prints, byte for byte.
-use Rattle.std.specs.Prelude.{ℕ, List, [], ◌∷◌, drop, Err, Ok}
+use Rattle.std.specs.Prelude.{ℕ, List, [], ◌∷◌, drop, Option, None, Some}
 use Rattle.page.specs.Words.{text, newline, field, field8, flat}
 use Rattle.shared_lines.specs.Lines.{refuse_line}
 use Rattle.standard_slot_lines.specs.Lines.{detailed_line}
@@ -31,9 +31,9 @@ abbrev pub bad_line : List ℕ
 bad_line = text "limits: the first line has to be three decimal numbers with one space between, as 165000000 1920 1200: the highest clock in Hz, the most pixels across, the most lines; at most 4294967295 65535 65535\n"
 
 -- the block is what follows the first line
-unfoldable pub answer_to : List ℕ → Asked → List ℕ
-answer_to s Asked.Nothing = bad_line
-answer_to s (Asked.Is l block) = reading_lines l (standard_of (drop block s))
+unfoldable pub answer_to : List ℕ → Option Asked → List ℕ
+answer_to s None = bad_line
+answer_to s (Some a) = reading_lines a.limits (standard_of (drop a.block s))
 
 abbrev pub answer : List ℕ → List ℕ
 answer s = answer_to s (asked_in s)

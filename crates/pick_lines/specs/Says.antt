@@ -1,5 +1,5 @@
 -- What an answer of `pick` means: four cases, in the words of the order.
-use Rattle.std.specs.Prelude.{ℕ, ◌≡◌, List, [], ◌∷◌, drop, Err, Ok}
+use Rattle.std.specs.Prelude.{ℕ, ◌≡◌, List, [], ◌∷◌, drop, Option, None, Some}
 use Rattle.std.proofs.Math.Path.{refl}
 use Rattle.page.specs.Words.{text, newline, field, decimal_in, field8, flat}
 use Rattle.steps.specs.declared.Refusal.{Refusal}
@@ -26,8 +26,8 @@ pub data Prints (l : Limits) (d : DetailedTimings) (v : Verdict) : List ℕ → 
 
 -- of all that is asked
 pub data Says (s : List ℕ) : List ℕ → Type 0 where
-  bad_line_lem : asked_in s ≡ Asked.Nothing → Says s bad_line
-  good_line : (l : Limits) (block : ℕ) (a : List ℕ) → asked_in s ≡ Asked.Is l block
+  bad_line_lem : asked_in s ≡ None → Says s bad_line
+  good_line : (l : Limits) (block : ℕ) (a : List ℕ) → asked_in s ≡ Some (record { limits = l; block = block })
       → (let r = standard_of (drop block s) in Prints l r.edid.timings.detailed r.end a) → Says s a
 
 module _ (l : Limits) (d : DetailedTimings) where
@@ -44,7 +44,8 @@ pub says : (s : List ℕ) → Says s (answer s)
 unfolding answer_to reading_lines
 says s = by (asked_in s) refl
   where
-    by : (a : Asked) → asked_in s ≡ a → Says s (answer_to s a)
-    by Asked.Nothing e = bad_line_lem e
-    by (Asked.Is l block) e =
-        let r = standard_of (drop block s) in good_line l block (reading_lines l r) e (by_verdict l r.edid.timings.detailed r.end)
+    by : (a : Option Asked) → asked_in s ≡ a → Says s (answer_to s a)
+    by None e = bad_line_lem e
+    by (Some a) e =
+        let r = standard_of (drop a.block s) in
+        good_line a.limits a.block (reading_lines a.limits r) e (by_verdict a.limits r.edid.timings.detailed r.end)

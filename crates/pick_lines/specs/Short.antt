@@ -1,7 +1,8 @@
 -- Every answer of `pick` is shorter than a page.
-use Rattle.std.specs.Prelude.{ℕ, ◌≤◌, ◌≡◌, List, length, take, drop, Err, Ok}
+use Rattle.std.specs.Prelude.{ℕ, ◌≤◌, ◌≡◌, List, length, take, drop, Option, None, Some}
 use Rattle.std.proofs.Common.{arith, length-append}
-use Rattle.page.specs.Page.{page, ◌▷◌}
+use Rattle.page.specs.declared.Page.{Page}
+use Rattle.page.specs.Page.{◌▷◌}
 use Rattle.page.specs.Words.{flat}
 use Rattle.page.specs.Short.{field_length, field8_length}
 use Rattle.page.specs.Meaning.{whole, only}
@@ -28,15 +29,15 @@ judged_length : (l : Limits) (ts : DetailedTimings) (v : Verdict) → length (ju
 judged_length l ts (Ok tt) = choice_length ts (choice l (listed ts))
 judged_length l ts (Err f) = omega (arith, refuse_length f)
 
-answer_length : (s : List ℕ) (a : Asked) → length (answer_to s a) ≤ 201
+answer_length : (s : List ℕ) (a : Option Asked) → length (answer_to s a) ≤ 201
 unfolding answer_to reading_lines
-answer_length s Asked.Nothing = omega arith
-answer_length s (Asked.Is l block) =
-    let t = standard_of (drop block s) in judged_length l t.edid.timings.detailed t.end
+answer_length s None = omega arith
+answer_length s (Some a) =
+    let t = standard_of (drop a.block s) in judged_length a.limits t.edid.timings.detailed t.end
 
-pub printed : (s out out' : List ℕ) (n : ℕ) → length out ≡ 4096
-    → page out' n ≡ page out 0 ▷ answer s → (take n out' ≡ answer s) × (drop n out' ≡ drop n out)
-printed s out out' n l e = let h = answer_length s (asked_in s) in whole (answer s) out out' n l (omega arith) e
+pub printed : (s : List ℕ) (p q : Page) → length p.out.now ≡ 4096 → p.at ≡ 0 → q ≡ p ▷ answer s
+    → (take q.at q.out.now ≡ answer s) × (drop q.at q.out.now ≡ drop q.at p.out.now)
+printed s p q l z e = let h = answer_length s (asked_in s) in whole (answer s) p q l z (omega arith) e
 
 -- what `pick_lines::listing` ensures leaves one count and one page
 pub one_answer : (s out p q : List ℕ) (m n : ℕ) → length p ≡ 4096 → length q ≡ 4096

@@ -1,140 +1,127 @@
 // What the program `pick` is asked and what it prints: three limits in the first line, then a block; the index of the timing to show, and its line.
 #![tactic(auto)]
 
-ghost use Rattle.std.specs.Prelude.{◌≤◌, ◌≡◌, length, take, drop};
-ghost use Rattle.page.specs.Page.{page, ◌▷◌};
+ghost use Rattle.std.specs.Prelude.{◌≤◌, ◌≡◌, length, take, drop, IfSome};
+ghost use Rattle.page.specs.Page.{◌▷◌};
 ghost use Rattle.picking.specs.Best.{listed};
 ghost use Rattle.picking.specs.Score.{choice};
 ghost use Rattle.pick_lines.specs.Asked.{is_digit, number_from, asked_in, Bounded, Inside};
 ghost use Rattle.pick_lines.specs.Lines as lines;
 
+use page::Page;
 use picking::{Choice, Limits};
 use standard_record::{DetailedTimings, StandardReading};
 use timing::{Lines, Pixels};
 
 // ---- what is asked
 
-// A number, and where what follows begins; nothing where there is none.
+// A number, and where what follows begins.
 #[derive(Clone, Copy)]
-pub enum Number {
-    Nothing,
-    Is { value: usize, next: usize },
+pub struct Number {
+    pub value: usize,
+    pub next: usize,
 }
 
-// The limits, and where the block begins; nothing where the first line is no such line.
+// The limits, and where the block begins.
 #[derive(Clone, Copy)]
-pub enum Asked {
-    Nothing,
-    Is { limits: Limits, block: usize },
+pub struct Asked {
+    pub limits: Limits,
+    pub block: usize,
 }
 
 fn is_digit(b: u8) -> bool
     ensures { result ≡ is_digit b }
 {
-    if b < 48 { false } else { b < 58 }
+    b >= 48 && b < 58
 }
 
 // The decimal digits from `from` on, at least one, with `end` behind the last; their number is at most `top`.
-fn read_number(s: &[u8], from: usize, end: u8, top: usize) -> Number
+fn read_number(s: &[u8], from: usize, end: u8, top: usize) -> Option<Number>
     requires { top ≤ 4294967295 }
-    ensures { (result ≡ number_from top end from s.now) × Bounded top (length s.now) result }
+    ensures { (result ≡ number_from top end from s.now) × IfSome result (Bounded top (length s.now)) }
 {
-    let mut at = from;
     let mut value = 0;
-    while at < s.len() {
+    for at in from..s.len() {
         let b = s[at];
         if b == end {
             if at == from {
-                return Number::Nothing;
+                return None;
             }
-            return Number::Is {
+            return Some(Number {
                 value,
                 next: at + 1,
-            };
+            });
         }
         if !is_digit(b) {
-            return Number::Nothing;
+            return None;
         }
         value = value * 10 + (b - 48) as usize;
         if value > top {
-            return Number::Nothing;
+            return None;
         }
-        at += 1;
     }
-    Number::Nothing
+    None
 }
 
-pub fn limits_in(s: &[u8]) -> Asked
-    ensures { (result ≡ asked_in s.now) × Inside (length s.now) result }
+// Nothing where the first line is no such line.
+pub fn limits_in(s: &[u8]) -> Option<Asked>
+    ensures { (result ≡ asked_in s.now) × IfSome result (Inside (length s.now)) }
 {
-    let Number::Is { value: clock, next } = read_number(s, 0, b' ', 4294967295) else {
-        return Asked::Nothing;
-    };
-    let Number::Is {
-        value: across,
-        next,
-    } = read_number(s, next, b' ', 65535)
-    else {
-        return Asked::Nothing;
-    };
-    let Number::Is { value: down, next } = read_number(s, next, b'\n', 65535) else {
-        return Asked::Nothing;
-    };
-    Asked::Is {
+    let clock = read_number(s, 0, b' ', 4294967295)?;
+    let across = read_number(s, clock.next, b' ', 65535)?;
+    let down = read_number(s, across.next, b'\n', 65535)?;
+    Some(Asked {
         limits: Limits {
-            clock: clock as u32,
-            across: Pixels(across as u16),
-            down: Lines(down as u16),
+            clock: clock.value as u32,
+            across: Pixels(across.value as u16),
+            down: Lines(down.value as u16),
         },
-        block: next,
-    }
+        block: down.next,
+    })
 }
 
 // ---- what is answered
 
-fn choice_lines(out: &mut [u8; 4096], limits: Limits, list: DetailedTimings) -> usize
-    ensures { page out.new result ≡ page out.old 0 ▷ lines.choice_lines list (choice limits (listed list)) }
+fn choice_lines(page: &mut Page, limits: Limits, list: DetailedTimings)
+    ensures { page.new ≡ page.old ▷ lines.choice_lines list (choice limits (listed list)) }
 {
     match picking::choose(limits, list) {
         Choice::Refused(number) => {
-            let mut n = page::bytes(out, 0, b"refuse");
-            n = page::field8(out, n, number);
-            page::newline(out, n)
+            page.bytes(b"refuse");
+            page.field(number);
+            page.newline();
         }
         Choice::Index(i) => {
-            let items = list.items;
-            let h = items[i];
-            let mut n = page::bytes(out, 0, b"pick");
-            n = page::field(out, n, i);
-            n = page::newline(out, n);
-            standard_slot_lines::detailed_line(out, n, h)
+            page.bytes(b"pick");
+            page.field(i);
+            page.newline();
+            standard_slot_lines::detailed_line(page, list.items[i]);
         }
     }
 }
 
-fn reading_lines(out: &mut [u8; 4096], limits: Limits, t: StandardReading) -> usize
-    ensures { page out.new result ≡ page out.old 0 ▷ lines.reading_lines limits t }
+#[tactic(auto, unfolding(crate::specs::Lines::reading_lines))]
+fn reading_lines(page: &mut Page, limits: Limits, t: StandardReading)
+    ensures { page.new ≡ page.old ▷ lines.reading_lines limits t }
 {
-    let end = t.end;
-    match end {
-        Err(f) => shared_lines::refuse_line(out, 0, f),
-        Ok(()) => choice_lines(out, limits, t.edid.timings.detailed),
+    match t.end {
+        Err(f) => shared_lines::refuse_line(page, f),
+        Ok(()) => choice_lines(page, limits, t.edid.timings.detailed),
     }
 }
 
-fn answer_lines(out: &mut [u8; 4096], s: &[u8]) -> usize
-    ensures { page out.new result ≡ page out.old 0 ▷ lines.answer s.now }
+fn answer_lines(page: &mut Page, s: &[u8])
+    ensures { page.new ≡ page.old ▷ lines.answer s.now }
 {
     match limits_in(s) {
-        Asked::Nothing => page::bytes(
-            out,
-            0,
+        None => page.bytes(
             b"limits: the first line has to be three decimal numbers with one space between, as 165000000 1920 1200: the highest clock in Hz, the most pixels across, the most lines; at most 4294967295 65535 65535\n",
         ),
-        Asked::Is { limits, block } => {
-            let t = standard_reading::read_standard(&s[block..]);
-            reading_lines(out, limits, t)
-        }
+        Some(asked) => reading_lines(
+            page,
+            asked.limits,
+            standard_reading::read_standard(&s[asked.block..]),
+        ),
     }
 }
 
@@ -142,6 +129,7 @@ fn answer_lines(out: &mut [u8; 4096], s: &[u8]) -> usize
 pub fn listing(out: &mut [u8; 4096], s: &[u8]) -> usize
     ensures { (take result out.new ≡ lines.answer s.now) × (drop result out.new ≡ drop result out.old) }
 {
-    page::size(out);
-    answer_lines(out, s)
+    let mut page = Page::new(out);
+    answer_lines(&mut page, s);
+    page.len()
 }

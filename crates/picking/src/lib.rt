@@ -50,7 +50,7 @@ pub fn choose(limits: Limits, list: DetailedTimings) -> Choice
     ensures { Chooses limits (listed list) result }
 {
     let items = list.items;
-    let mut k = page::least(list.len, 4);
+    let mut k = list.len.min(4);
     let mut most = 0;
     let mut at = k;
     while k > 0 {

@@ -12,7 +12,7 @@ fn main(rt: HostRuntime) -> io::Result<()> {
 }
 
 fn show<W: Write, E: Eprint>(output: &mut W, errors: &E, s: &[u8]) -> io::Result<()> {
-    let cut = page::least(s.len(), 128);
+    let cut = s.len().min(128);
     let panel = &s[0..cut];
     let reference = &s[cut..];
     if naming::number(panel, reference) == 18 {
