@@ -21,23 +21,13 @@ pub struct Marks {
     pub revision: bool,
 }
 
-// Two tests as one, without a branch in the caller.
-fn either(a: bool, b: bool) -> bool
-    ensures { result ≡ (a || b) }
-{
-    if a { true } else { b }
-}
-
 // ---- pairs
 
 // Ratio code 0, in a pair that is listed: 01 01 is not.
 fn code_zero(low: u8, high: u8) -> bool
     ensures { result ≡ code_zero low high }
 {
-    write_leaf::both(
-        bits::digits(high, 6, 2) == 0,
-        !write_leaf::both(low == 1, high == 1),
-    )
+    (bits::digits(high, 6, 2) == 0) & !((low == 1) & (high == 1))
 }
 
 // Whether one of the n pairs from k on is such a pair.
@@ -45,14 +35,9 @@ fn codes_zero(t: &[u8], k: u8, n: u8) -> bool
     ensures { result ≡ codes_zero t.now k n }
 {
     let mut found = false;
-    let mut i: u8 = 0;
-    while i < n {
+    for i in 0..n {
         let at = k as usize + 2 * i as usize;
-        found = either(
-            found,
-            code_zero(bits::byte_at(t, at), bits::byte_at(t, at + 1)),
-        );
-        i += 1;
+        found |= code_zero(bits::byte_at(t, at), bits::byte_at(t, at + 1));
     }
     found
 }
@@ -68,53 +53,46 @@ fn clockless(t: &[u8]) -> bool
 fn tagged(tag: u8, t: &[u8]) -> bool
     ensures { result ≡ tagged tag t.now }
 {
-    write_leaf::both(clockless(t), bits::byte_at(t, 3) == tag)
+    clockless(t) & (bits::byte_at(t, 3) == tag)
 }
 
 fn active_low_zero(t: &[u8]) -> bool
     ensures { result ≡ active_low_zero t.now }
 {
-    write_leaf::both(!clockless(t), bits::byte_at(t, 2) == 0)
+    !clockless(t) & (bits::byte_at(t, 2) == 0)
 }
 
 fn index_zero(t: &[u8]) -> bool
     ensures { result ≡ index_zero t.now }
 {
-    write_leaf::both(
-        tagged(0xfb, t),
-        either(bits::byte_at(t, 5) == 0, bits::byte_at(t, 10) == 0),
-    )
+    tagged(0xfb, t) & ((bits::byte_at(t, 5) == 0) | (bits::byte_at(t, 10) == 0))
 }
 
 fn gamma_ff(t: &[u8]) -> bool
     ensures { result ≡ gamma_ff t.now }
 {
-    write_leaf::both(
-        tagged(0xfb, t),
-        either(bits::byte_at(t, 9) == 0xff, bits::byte_at(t, 14) == 0xff),
-    )
+    tagged(0xfb, t) & ((bits::byte_at(t, 9) == 0xff) | (bits::byte_at(t, 14) == 0xff))
 }
 
 // ---- the block
 
 // The marks m and those of a slot; its ratio whatever the revision is.
+#[tactic(auto, unfolding(crate::specs::Laws::with_slot))]
 fn with_slot(m: Marks, t: &[u8]) -> Marks
     ensures { result ≡ with_slot m t.now }
 {
     Marks {
-        active: either(m.active, active_low_zero(t)),
-        dummy: either(m.dummy, tagged(0x10, t)),
-        index: either(m.index, index_zero(t)),
-        gamma: either(m.gamma, gamma_ff(t)),
-        ratio: either(
-            m.ratio,
-            write_leaf::both(tagged(0xfa, t), codes_zero(t, 5, 6)),
-        ),
+        active: m.active | active_low_zero(t),
+        dummy: m.dummy | tagged(0x10, t),
+        index: m.index | index_zero(t),
+        gamma: m.gamma | gamma_ff(t),
+        ratio: m.ratio | (tagged(0xfa, t) & codes_zero(t, 5, 6)),
         revision: m.revision,
     }
 }
 
 // The marks m of the slots, with the revision and the eight pairs.
+#[tactic(auto, unfolding(crate::specs::Laws::in_block))]
 fn in_block(s: &[u8], m: Marks) -> Marks
     ensures { result ≡ in_block s.now m }
 {
@@ -123,10 +101,7 @@ fn in_block(s: &[u8], m: Marks) -> Marks
         dummy: m.dummy,
         index: m.index,
         gamma: m.gamma,
-        ratio: write_leaf::both(
-            bits::byte_at(s, 19) < 3,
-            either(codes_zero(s, 38, 8), m.ratio),
-        ),
+        ratio: (bits::byte_at(s, 19) < 3) & (codes_zero(s, 38, 8) | m.ratio),
         revision: 4 <= bits::byte_at(s, 19),
     }
 }
@@ -166,16 +141,9 @@ fn line_if(page: &mut Page, b: bool, word: &[u8])
 fn one_of(m: Marks) -> bool
     ensures { result ≡ lines.one_of m }
 {
-    either(
-        either(
-            either(either(either(m.active, m.dummy), m.index), m.gamma),
-            m.ratio,
-        ),
-        m.revision,
-    )
+    m.active | m.dummy | m.index | m.gamma | m.ratio | m.revision
 }
 
-#[tactic(auto, using(page::specs::Laws::appends), unfolding(crate::specs::Lines::marks_lines))]
 fn marks_lines(page: &mut Page, m: Marks)
     ensures { page.new ≡ page.old ▷ lines.marks_lines m }
 {

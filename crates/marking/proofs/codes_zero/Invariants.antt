@@ -1,11 +1,7 @@
 -- `marking::codes_zero` meets its contract. The invariant: `found` is what the first i pairs come to. Assumes nothing.
-use Prim.Native.Nat.{◌≤◌, ◌-◌}
-use mathlib.Core.Path.{◌≡◌}
+use Rattle.std.proofs.Common.{◌≡◌}
 use Rattle.marking.specs.Marks.{codes_zero}
 use Rattle.marking.proofs.codes_zero.Given as goal
 
 abbrev pub invariant-loop-i : goal.invariant-loop-i
-invariant-loop-i l = (l.i ≤ l.n) × (l.found ≡ codes_zero l.t l.k l.i)
-
-abbrev pub decreases-loop-i : goal.decreases-loop-i
-decreases-loop-i l = l.n - l.i
+invariant-loop-i l = l.found ≡ codes_zero l.t l.k l.i

@@ -1,5 +1,0 @@
--- `marking::active_low_zero` meets its contract: by what its callees ensure. Assumes nothing.
-use Rattle.marking.proofs.active_low_zero.Goals as goal
-
-pub returns : goal.returns
-returns c = rw (c.both.ensures, c.byte_at.ensures, c.clockless.ensures)
