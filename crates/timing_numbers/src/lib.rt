@@ -30,17 +30,17 @@ fn sync_numbers(t: Sync) -> SyncNumbers
     match t {
         Sync::AnalogComposite { serrated, line } => SyncNumbers {
             kind: 0,
-            first: write_leaf::digit(serrated) as u32,
-            second: standard_slot_lines::line_number(line) as u32,
+            first: u32::from(serrated),
+            second: u32::from(standard_slot_lines::line_number(line)),
         },
         Sync::BipolarAnalogComposite { serrated, line } => SyncNumbers {
             kind: 1,
-            first: write_leaf::digit(serrated) as u32,
-            second: standard_slot_lines::line_number(line) as u32,
+            first: u32::from(serrated),
+            second: u32::from(standard_slot_lines::line_number(line)),
         },
         Sync::DigitalComposite { serrated, polarity } => SyncNumbers {
             kind: 2,
-            first: write_leaf::digit(serrated) as u32,
+            first: u32::from(serrated),
             second: polarity_number(polarity),
         },
         Sync::DigitalSeparate {
@@ -54,35 +54,23 @@ fn sync_numbers(t: Sync) -> SyncNumbers
     }
 }
 
-// A widening in a function of its own asks no proof of its caller.
-fn wide(x: u16) -> u32
-    ensures { result ≡ x }
-{
-    x as u32
-}
-
 // In the order of its line in the listing, without its size, its border and its slot.
 pub fn numbers_of(t: DetailedTiming) -> [u32; 14]
     ensures { result ≡ numbers_of t }
 {
-    // an enum that is a field is copied before it is passed
-    let kind = t.sync;
-    let glasses = t.stereo;
-    let sync = sync_numbers(kind);
-    let stereo = shared_lines::stereo_number(glasses) as u32;
-    let interlaced = write_leaf::digit(t.interlaced) as u32;
+    let sync = sync_numbers(t.sync);
     [
         t.clock,
-        wide(t.across.active.0),
-        wide(t.down.active.0),
-        wide(t.across.front.0),
-        wide(t.down.front.0),
-        wide(t.across.sync.0),
-        wide(t.down.sync.0),
-        wide(t.across.back.0),
-        wide(t.down.back.0),
-        interlaced,
-        stereo,
+        u32::from(t.across.active.0),
+        u32::from(t.down.active.0),
+        u32::from(t.across.front.0),
+        u32::from(t.down.front.0),
+        u32::from(t.across.sync.0),
+        u32::from(t.down.sync.0),
+        u32::from(t.across.back.0),
+        u32::from(t.down.back.0),
+        u32::from(t.interlaced),
+        u32::from(shared_lines::stereo_number(t.stereo)),
         sync.kind,
         sync.first,
         sync.second,
