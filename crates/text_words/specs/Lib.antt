@@ -2,4 +2,3 @@
 pub mod Words
 pub mod Scan
 pub mod Walk
-pub mod Same

@@ -78,18 +78,7 @@ module _ (l : List ℕ) (k : ℕ) (h : k < length l) where
   unfolding word_length
   word_goes_on quoted e = rw (drop-cons l k 0 h, e, add-one)
 
-  pub gap_stops : is_blank (get_or l k 0) ≡ false → gap_length (drop k l) ≡ 0
-  unfolding gap_length
-  gap_stops e = rw (drop-cons l k 0 h, e)
-
-  pub gap_goes_on : is_blank (get_or l k 0) ≡ true → gap_length (drop k l) ≡ suc (gap_length (drop (k + 1) l))
-  gap_goes_on e = rw (drop-cons l k 0 h, gap_more _ _ e, add-one)
-
 module _ (l : List ℕ) (k : ℕ) (h : length l ≤ k) where
   pub word_over : (quoted : Bool) → word_length quoted (drop k l) ≡ 0
   unfolding word_length
   word_over quoted = rw (drop_of_length-le l {i = k} h)
-
-  pub gap_over : gap_length (drop k l) ≡ 0
-  unfolding gap_length
-  gap_over = rw (drop_of_length-le l {i = k} h)

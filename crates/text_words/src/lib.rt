@@ -17,26 +17,26 @@ pub struct Place {
 fn is_blank(b: u8) -> bool
     ensures { result ≡ is_blank b }
 {
-    if b == b' ' { true } else { b == b'\t' }
+    matches!(b, b' ' | b'\t')
 }
 
 pub fn is_plain(b: u8) -> bool
     ensures { result ≡ is_plain b }
 {
-    0x20 <= b && (b <= 0x7e && (b != b'"' && b != b'\\'))
+    matches!(b, b' '..=b'~') && b != b'"' && b != b'\\'
 }
 
 // Whether b stands between words, and whether what follows it is inside of quotes.
 fn parts(quoted: bool, b: u8) -> bool
     ensures { result ≡ parts quoted b }
 {
-    if quoted { false } else { is_blank(b) }
+    !quoted && is_blank(b)
 }
 
 fn turned(quoted: bool, b: u8) -> bool
     ensures { result ≡ turned quoted b }
 {
-    if b == b'"' { !quoted } else { quoted }
+    quoted != (b == b'"')
 }
 
 // Where the word ends that begins at `at`.
@@ -45,15 +45,13 @@ fn word_end(l: &[u8], at: usize) -> usize
     ensures { result ≡ at + word_length false (drop at l.now) }
 {
     let mut quoted = false;
-    let mut k = at;
-    while k < l.len() {
+    for k in at..l.len() {
         if parts(quoted, l[k]) {
             return k;
         }
         quoted = turned(quoted, l[k]);
-        k += 1;
     }
-    k
+    l.len()
 }
 
 // Where the blanks end that begin at `at`.
@@ -61,15 +59,8 @@ fn gap_end(l: &[u8], at: usize) -> usize
     requires { at ≤ length l.now }
     ensures { result ≡ at + gap_length (drop at l.now) }
 {
-    let mut k = at;
-    while k < l.len() {
-        if is_blank(l[k]) {
-            k += 1;
-        } else {
-            return k;
-        }
-    }
-    k
+    let blanks = l[at..].iter().take_while(|&&b| is_blank(b)).count();
+    at + blanks
 }
 
 // The word at k; the last one where there are fewer.
@@ -78,26 +69,25 @@ fn walk(l: &[u8], k: usize) -> Place
 {
     let mut start = 0;
     let mut end = word_end(l, 0);
-    let mut index = 0;
-    while index < k && end < l.len() {
+    for index in 0..k {
+        if end == l.len() {
+            return Place { start, end, index };
+        }
         start = gap_end(l, end);
         end = word_end(l, start);
-        index += 1;
     }
-    Place { start, end, index }
+    Place {
+        start,
+        end,
+        index: k,
+    }
 }
 
 pub fn word(l: &[u8], k: usize) -> &[u8]
     ensures { result.now ≡ l.now word k }
 {
-    let at = walk(l, k);
-    let start = at.start;
-    let end = at.end;
-    if at.index == k {
-        &l[start..end]
-    } else {
-        &l[0..0]
-    }
+    let Place { start, end, index } = walk(l, k);
+    if index == k { &l[start..end] } else { &[] }
 }
 
 // Whether no word stands behind the one at k.
@@ -105,26 +95,12 @@ pub fn last_word(l: &[u8], k: usize) -> bool
     ensures { result ≡ last_word l.now k }
 {
     let at = walk(l, k);
-    if at.index < k {
-        true
-    } else {
-        at.end == l.len()
-    }
+    at.index < k || at.end == l.len()
 }
 
 // Whether two words are the same.
 pub fn same(v: &[u8], w: &[u8]) -> bool
     ensures { result ≡ same v.now w.now }
 {
-    if v.len() != w.len() {
-        return false;
-    }
-    let mut i = 0;
-    while i < v.len() {
-        if v[i] != w[i] {
-            return false;
-        }
-        i += 1;
-    }
-    true
+    v == w
 }
