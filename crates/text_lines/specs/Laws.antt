@@ -1,9 +1,8 @@
 -- What a text of whole lines has as its lines, and how many newlines a text has.
-use Rattle.std.specs.Prelude.{ℕ, zero, suc, ◌+◌, ◌<◌, ◌≤◌, Bool, true, false, cond, List, [], ◌∷◌, ◌++◌, ◌≡◌, refl, length, get_or}
-use Rattle.std.proofs.Common.{ap, add-one, arith, take_all}
-use Rattle.std.proofs.Math.Seq.{take-suc}
+use Rattle.std.specs.Prelude.{ℕ, zero, suc, ◌+◌, ◌<◌, Bool, true, false, cond, List, [], ◌∷◌, ◌++◌, ◌≡◌, refl, length, get_or}
+use Rattle.std.proofs.Common.{ap, arith}
 use Rattle.text_words.specs.Words.{onto}
-use Rattle.text_lines.specs.Lines.{is_idle, is_newline, lines, counted, newlines, line_at}
+use Rattle.text_lines.specs.Lines.{is_idle, is_newline, lines, counted, newlines}
 
 pub newlines_append : (s t : List ℕ) → newlines (s ++ t) ≡ newlines s + newlines t
 unfolding newlines
@@ -47,17 +46,3 @@ counted_some ((b ∷ l) ∷ ls) k h = go (is_idle (b ∷ l)) k h (counted_some l
     go true k h f = f k h
     go false zero h f = omega arith
     go false (suc k) h f = f k (omega arith)
-
--- ---- newline after newline
-
-module _ (s : List ℕ) (k : ℕ) (h : k < length s) where
-  pub at_newline : is_newline (get_or s k 0) ≡ true → line_at s (k + 1) ≡ line_at s k + 1
-  unfolding newlines
-  at_newline e = rw (add-one k, take-suc s k 0 h, newlines_append, e) (omega arith)
-
-  pub at_other : is_newline (get_or s k 0) ≡ false → line_at s (k + 1) ≡ line_at s k
-  unfolding newlines
-  at_other e = rw (add-one k, take-suc s k 0 h, newlines_append, e) (omega arith)
-
-pub at_end : (s : List ℕ) (k n : ℕ) → length s ≤ k → k ≤ n → line_at s k ≡ line_at s n
-at_end s k n h e = rw (take_all k s h, take_all n s (omega arith))

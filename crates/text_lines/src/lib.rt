@@ -18,14 +18,7 @@ struct Place {
 fn is_idle(l: &[u8]) -> bool
     ensures { result ≡ is_idle l.now }
 {
-    let mut k = 0;
-    while k < l.len() {
-        if l[k] != b' ' && l[k] != b'\t' {
-            return k == 0 && l[k] == b'#';
-        }
-        k += 1;
-    }
-    true
+    l.starts_with(b"#") || l.iter().all(|&b| matches!(b, b' ' | b'\t'))
 }
 
 // Where the line ends that begins at `at`.
@@ -33,20 +26,17 @@ fn line_end(s: &[u8], at: usize) -> usize
     requires { at ≤ length s.now }
     ensures { result ≡ at + line_length (drop at s.now) }
 {
-    let mut k = at;
-    while k < s.len() {
-        if s[k] == b'\n' {
-            return k;
-        }
-        k += 1;
+    match s[at..].iter().position(|&b| b == b'\n') {
+        Some(n) => at + n,
+        None => s.len(),
     }
-    s.len()
 }
 
 // The line that counts at k; the empty one at the end of the text where there are fewer.
 fn find(s: &[u8], k: usize) -> Place
     ensures { Found s.now k result }
 {
+    // No range or iterator is plainer: `at` goes on by lines, `left` by those that count, and `split` gives a line more behind a last newline.
     let mut at = 0;
     let mut left = k;
     let mut number = 1;
@@ -76,9 +66,7 @@ fn find(s: &[u8], k: usize) -> Place
 pub fn content(s: &[u8], k: usize) -> &[u8]
     ensures { result.now ≡ content s.now k }
 {
-    let at = find(s, k);
-    let start = at.start;
-    let end = at.end;
+    let Place { start, end, .. } = find(s, k);
     &s[start..end]
 }
 
@@ -93,13 +81,5 @@ pub fn line_number(s: &[u8], k: usize) -> usize
 pub fn line_at(s: &[u8], n: usize) -> usize
     ensures { result ≡ line_at s.now n }
 {
-    let mut line = 1;
-    let mut k = 0;
-    while k < n && k < s.len() {
-        if s[k] == b'\n' {
-            line += 1;
-        }
-        k += 1;
-    }
-    line
+    1 + s.iter().take(n).filter(|&&b| b == b'\n').count()
 }

@@ -1,33 +1,27 @@
--- `text_lines::line_at` meets its contract. The invariant: the line is that of the byte at k. Assumes nothing.
-use mathlib.Core.Path.{◌≡◌, refl, ap, ◌∙◌}
-use native.Mathlib.Omega.{arith}
-use borrow.Author.Rules.{rules}
-use borrow.Author.Tests.{eq-eqb, ne_eqb, ltb-true}
-use Rattle.text_lines.specs.Lines.{line_at, newlines}
-use Rattle.text_lines.specs.Laws.{at_newline, at_other, at_end}
+-- `text_lines::line_at` meets its contract: the newlines before the byte are counted. Assumes nothing.
+use Rattle.std.specs.Prelude.{ℕ, ◌≡◌, Bool, true, false, List, [], ◌∷◌, refl, cond, take, length, suc}
+use Rattle.std.specs.List.{filter}
+use Rattle.std.specs.Slice.Iter.{iter_rest}
+use Rattle.std.specs.Iterator.Adapters.{take_source, take_count}
+use Rattle.std.proofs.Common.{ap, ◌∙◌, rules, tests, arith}
+use Rattle.std.proofs.lemmas.Iterator.{YieldsList-from_slice, YieldsList-from_take}
+use Rattle.std.proofs.lemmas.Iterator.Consumers.{YieldsList-from_filter, count_from_yields_List}
+use Rattle.text_lines.specs.Lines.{is_newline, newlines}
 use Rattle.text_lines.proofs.line_at.Goals as goal
-use Rattle.text_lines.proofs.line_at.Goals.{then-s-k-eq10, else-s-k-eq10}
 
-pub loop-k-init : goal.loop-k-init
+newlines_are : (s : List ℕ) → length (filter is_newline s) ≡ newlines s
 unfolding newlines
-loop-k-init c = (refl, search rules, search rules)
+newlines_are [] = refl
+newlines_are (b ∷ s) = go (is_newline b) (newlines_are s)
+  where
+    go : (t : Bool) → length (filter is_newline s) ≡ newlines s → length (cond t (b ∷ filter is_newline s) (filter is_newline s)) ≡ cond t (suc (newlines s)) (newlines s)
+    go true e = omega (arith, e)
+    go false e = e
 
-pub returns-else-k-s : goal.returns-else-k-s
-returns-else-k-s c =
-    c.loop-k.invariant.0 ∙ at_end c.args.s.now _ _ (search rules) c.loop-k.invariant.2
-
-pub returns-after-loop-k : goal.returns-after-loop-k
-returns-after-loop-k c =
-    let all : c.loop-k.k ≡ c.args.n = omega arith in
-    c.loop-k.invariant.0 ∙ ap (line_at c.args.s.now) all
-
-pub overflow_add-line : goal.overflow_add-line
-overflow_add-line c = omega (arith, ltb-true)
-
-pub loop-k-preserved : goal.loop-k-preserved
-loop-k-preserved c =
+pub returns : goal.returns
+returns c =
     let s = c.args.s.now in
-    elim c.if-s-k-eq10.branch [
-      | then-s-k-eq10 w ↦ (omega (arith, at_newline s c.loop-k.k (search rules) (eq-eqb _ _ w.if-s-k-eq10.true)), omega arith, omega arith)
-      | else-s-k-eq10 w ↦ (omega (arith, at_other s c.loop-k.k (search rules) (ne_eqb _ _ w.if-s-k-eq10.false)), omega arith, omega arith)
-    ]
+    let from = YieldsList-from_slice s (ap (λ i. iter_rest (take_source i)) c.filter.ensures.source ∙ ap iter_rest c.take.ensures.source ∙ c.iter.ensures.rest) in
+    let some = YieldsList-from_take c.args.n from (ap take_count c.filter.ensures.source ∙ c.take.ensures.count) in
+    let many = count_from_yields_List _ _ c.count.ensures.ran (YieldsList-from_filter _ is_newline some c.filter.ensures.closure (λ x b q k. search (rules, tests))) in
+    omega (arith, many, newlines_are (take c.args.n s))
