@@ -1,11 +1,12 @@
 -- A walk along the words of a line: where it stands, and that it goes on from word to word.
-use Rattle.std.specs.Prelude.{ℕ, suc, ◌+◌, ◌-◌, ◌<◌, ◌≤◌, Bool, true, false, cond, List, [], ◌∷◌, ◌≡◌, refl, eqb, length, get_or, take, drop}
+use Rattle.std.specs.Prelude.{ℕ, suc, ◌+◌, ◌-◌, ◌<◌, ◌≤◌, Bool, true, false, cond, List, [], ◌∷◌, ◌≡◌, refl, eqb, ltb, length, get_or, take, drop}
 use Rattle.std.proofs.Common.{sym, ap, ◌∙◌, add-zero, arith, le-leb, eqb-true, length-drop, drop_of_length-le, drop-drop, get_or-drop}
 use Rattle.std.proofs.Math.Nat.{add-sub_cancel_left}
+use borrow.Author.Tests.{ltb-true, ltb-false}
 use Rattle.std.proofs.lemmas.Bool.{lt-leb, eqb-false}
 use Rattle.std.proofs.Math.ListN.{get_or-eq_default}
 use Rattle.text_words.specs.Words.{is_blank, parts, turned, words, ◌word◌, last_word}
-use Rattle.text_words.specs.Scan.{word_length, gap_length, behind, words_are}
+use Rattle.text_words.specs.Scan.{word_length, gap_length, behind, words_are, words_few}
 use Rattle.text_words.specs.declared.Place.{Place}
 
 -- the word from start to end is the one at index
@@ -95,3 +96,11 @@ module _ (l : List ℕ) (start end index : ℕ) (a : At l start end index) where
       go : (t : Bool) → eqb end (length l) ≡ t → t ≡ last_word l index
       go true e = sym (last_behind index (omega arith) (eqb-true end (length l) e))
       go false e = sym (more_behind (eqb-false end (length l) e))
+
+-- a walk as far as there are bytes comes to the last word
+pub all_walked : (l : List ℕ) (r : Place) → Walked l (length l) r → length (words l) ≡ r.index + 1
+all_walked l r w = go (ltb r.index (length l)) refl
+  where
+    go : (t : Bool) → ltb r.index (length l) ≡ t → length (words l) ≡ r.index + 1
+    go true h = omega (arith, ended l r.start r.end r.index w.at (w.reached (ltb-true r.index (length l) h)))
+    go false h = omega (arith, count l r.start r.end r.index w.at, words_few false l, w.most, ltb-false r.index (length l) h)

@@ -2,7 +2,7 @@
 #![tactic(auto)]
 
 ghost use Rattle.std.specs.Prelude.{◌+◌, ◌≤◌, ◌≡◌, false, length, drop};
-ghost use Rattle.text_words.specs.Words.{is_blank, is_plain, parts, turned, ◌word◌, last_word, same};
+ghost use Rattle.text_words.specs.Words.{is_blank, is_plain, parts, turned, words, ◌word◌, last_word, same};
 ghost use Rattle.text_words.specs.Scan.{word_length, gap_length};
 ghost use Rattle.text_words.specs.Walk.{Walked};
 
@@ -88,6 +88,13 @@ pub fn word(l: &[u8], k: usize) -> &[u8]
 {
     let Place { start, end, index } = walk(l, k);
     if index == k { &l[start..end] } else { &[] }
+}
+
+// How many words a line has.
+pub fn count(l: &[u8]) -> usize
+    ensures { result ≡ length (words l.now) }
+{
+    walk(l, l.len()).index + 1
 }
 
 // Whether no word stands behind the one at k.
