@@ -1,33 +1,29 @@
--- What the answers of the code say: a piece by its place, and bytes in their array.
-use Rattle.std.specs.Prelude.{ℕ, ◌≤◌, Bool, true, false, cond, List, ◌≡◌, length, drop, replicate}
-use Rattle.std.proofs.Math.Option.{Option, none, some}
+-- What the answers of the code say: a number, a piece with what stands behind it, and bytes in their array.
+use Rattle.std.specs.Prelude.{ℕ, cond, ◌&&◌, Option, Some, None, List, leb, length}
+use Rattle.std.proofs.Math.Option.{none, some}
+use Rattle.std.proofs.Math.Option.{Option as Maybe}
 use Rattle.fixed.specs.Fixed.{pad}
-use Rattle.text_kinds.specs.Kinds.{value, Piece, byte, ends, wrong}
-use Rattle.text_kinds.specs.declared.Number.{Number}
+use Rattle.text_kinds.specs.Kinds.{all_digits, value, is_number, is_hex, hex_value, Piece, byte, ends, wrong}
 use Rattle.text_kinds.specs.declared.Next.{Next}
+use Rattle.text_kinds.specs.declared.Next.TheVariants.{Byte, Ends}
 use Rattle.text_kinds.specs.declared.Kept.{Kept}
 
--- whether w is a number, and which; 0 if none
-pub record Reads (is : Bool) (w : List ℕ) (r : Number) : Type 0 where
-  pub told : r.is ≡ is
-  pub number : r.value ≡ cond is (value 0 w) 0
+-- the number that w is, if it is one
+abbrev pub number_in : ℕ → List ℕ → Option ℕ
+number_in most w = cond (is_number most w) (Some (value 0 w)) None
 
--- of the word w
-abbrev pub of_next : List ℕ → Next → Piece
-of_next w (Next.Byte b n) = byte b (drop n w)
-of_next w Next.Ends = ends
-of_next w Next.Wrong = wrong
+-- the number that digits stand for, of 32 bits
+abbrev pub digits_in : List ℕ → Option ℕ
+digits_in w = cond (all_digits w && leb (value 0 w) 4294967295) (Some (value 0 w)) None
 
--- no further than its end
-abbrev pub Inside : List ℕ → Next → Type 0
-Inside w (Next.Byte b n) = n ≤ length w
-Inside w Next.Ends = Unit
-Inside w Next.Wrong = Unit
+abbrev pub hex_digit : ℕ → Option ℕ
+hex_digit b = cond (is_hex b) (Some (hex_value b)) None
 
-pub record Tells (w : List ℕ) (r : Next) (p : Piece) : Type 0 where
-  pub is : of_next w r ≡ p
-  pub inside : Inside w r
+abbrev pub piece_of : Option Next → Piece
+piece_of None = wrong
+piece_of (Some (Byte b rest)) = byte b rest.now
+piece_of (Some Ends) = ends
 
-abbrev pub kept_of : Option (List ℕ) → Kept
-kept_of none = record { bytes = replicate 13 0; len = 0; is = false }
-kept_of (some bs) = record { bytes = pad 13 0 bs; len = length bs; is = true }
+abbrev pub kept_of : Maybe (List ℕ) → Option Kept
+kept_of none = None
+kept_of (some bs) = Some (record { bytes = pad 13 0 bs; len = length bs })

@@ -1,8 +1,9 @@
 -- Bytes gathered one after the other: how far, and what that comes to.
 use Prim.Native.Nat.{ℕ, zero, suc, ◌+◌, ◌<◌, ◌≤◌}
-use Rattle.std.specs.Prelude.{Bool, true, List, [], ◌∷◌, ◌++◌, ◌≡◌, refl, length, take, set}
+use Rattle.std.specs.Prelude.{Bool, List, [], ◌∷◌, ◌++◌, ◌≡◌, refl, length, take, set}
 use Rattle.std.proofs.Common.{append-nil, append_assoc, sym, ap, ap₂, ◌∙◌, add-one, arith, length-take, length-set, take-suc-set}
 use Rattle.std.proofs.Math.Option.{Option, none, some}
+use Rattle.std.specs.Prelude.{None, Some}
 use Rattle.fixed.specs.Fixed.{pad, count, put, put_room, put_pad}
 use Rattle.text_kinds.specs.Kinds.{byte, ends, wrong, piece, more, bytes_from}
 use Rattle.text_kinds.specs.Answers.{kept_of}
@@ -55,13 +56,13 @@ module _ (quoted : Bool) (s bytes : List ℕ) (len n : ℕ) (left : List ℕ) (g
   long : length (take len bytes) ≡ len
   long = omega (arith, length-take len bytes, g.size, g.room)
 
-  pub ended : piece quoted left ≡ ends → kept_of (bytes_from quoted 13 s) ≡ record { bytes = bytes; len = len; is = true }
+  pub ended : piece quoted left ≡ ends → Some (record { bytes = bytes; len = len }) ≡ kept_of (bytes_from quoted 13 s)
   ended e =
-      ap kept_of (g.is ∙ ap (before (take len bytes)) (from_ends quoted left n e) ∙ ap some (append-nil (take len bytes)))
-      ∙ (λ i. record { bytes = sym g.padded i; len = long i; is = true })
+      sym (ap kept_of (g.is ∙ ap (before (take len bytes)) (from_ends quoted left n e) ∙ ap some (append-nil (take len bytes)))
+      ∙ (λ i. Some (record { bytes = sym g.padded i; len = long i })))
 
-  pub refused : piece quoted left ≡ wrong → bytes_from quoted 13 s ≡ none
-  refused e = g.is ∙ ap (before (take len bytes)) (from_wrong quoted left n e)
+  pub refused : piece quoted left ≡ wrong → None ≡ kept_of (bytes_from quoted 13 s)
+  refused e = sym (ap kept_of (g.is ∙ ap (before (take len bytes)) (from_wrong quoted left n e)))
 
 count_all : (n : ℕ) (xs : List ℕ) → length xs ≤ n → count n xs ≡ length xs
 count_all zero [] h = refl
@@ -77,8 +78,8 @@ pushed xs b h =
     ∙ put_pad 13 0 b xs
 
 module _ (quoted : Bool) (s bytes : List ℕ) (len : ℕ) (left : List ℕ) (b : ℕ) (t : List ℕ) (e : piece quoted left ≡ byte b t) where
-  pub too_many : Gathered quoted s bytes len 0 left → bytes_from quoted 13 s ≡ none
-  too_many g = g.is ∙ ap (before (take len bytes)) (from_over quoted left b t e)
+  pub too_many : Gathered quoted s bytes len 0 left → None ≡ kept_of (bytes_from quoted 13 s)
+  too_many g = sym (ap kept_of (g.is ∙ ap (before (take len bytes)) (from_over quoted left b t e)))
 
   pub one_more : (n : ℕ) → Gathered quoted s bytes len (suc n) left → Gathered quoted s (set bytes len b) (len + 1) n t
   one_more n g =

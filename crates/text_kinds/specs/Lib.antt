@@ -1,5 +1,4 @@
 -- What the contracts of `text_kinds` cite.
 pub mod Kinds
 pub mod Answers
-pub mod Laws
 pub mod Gathered

@@ -1,347 +1,265 @@
 // What the words of a line stand for, and the forms of lines. A word that is missing is the empty one, which stands for nothing.
 #![tactic(auto)]
 
-ghost use Rattle.std.specs.Prelude.{◌+◌, ◌*◌, ◌≤◌, ◌≡◌, true, false, ◌&&◌, eqb, leb, length, drop};
-ghost use Rattle.std.proofs.Math.Option.{none};
+ghost use Rattle.std.specs.Prelude.{◌≤◌, ◌≡◌, ℕ, true, false};
 ghost use Rattle.text_words.specs.Words.{words, same, ◌word◌};
-ghost use Rattle.text_kinds.specs.Kinds.{all_digits, value, is_number};
+ghost use Rattle.text_kinds.specs.Kinds.{is_number};
 ghost use Rattle.text_kinds.specs.Kinds as kinds;
-ghost use Rattle.text_kinds.specs.Answers.{Reads, Tells, kept_of};
+ghost use Rattle.text_kinds.specs.Answers as answers;
 
-// A number; 0 where there is none.
-#[derive(Clone, Copy)]
-pub struct Number {
-    pub value: u32,
-    pub is: bool,
-}
-
-// The bytes of a text or of a run, then zeros; no bytes where there is none.
+// The bytes of a text or of a run, then zeros.
 #[derive(Drop)]
 pub struct Kept {
     pub bytes: [u8; 13],
     pub len: usize,
-    pub is: bool,
 }
 
-// What comes next in a text or a run: a byte, and where the rest begins.
+// What comes next in a text or a run: a byte, with what stands behind it, or the end.
 #[derive(Clone, Copy)]
-pub enum Next {
-    Byte(u8, usize),
+enum Next<'a> {
+    Byte(u8, &'a [u8]),
     Ends,
-    Wrong,
-}
-
-fn both(a: bool, b: bool) -> bool
-    ensures { result ≡ (a && b) }
-{
-    if a { b } else { false }
-}
-
-fn within(b: u8, low: u8, high: u8) -> bool
-    ensures { result ≡ kinds.within low high b }
-{
-    both(low <= b, b <= high)
 }
 
 // ---- numbers
 
+// A type of unsigned numbers that a word may stand for.
+pub trait Unsigned: Sized {
+    // The most that it holds, and which number a value is.
+    ghost most: { ℕ };
+
+    ghost value: { Self → ℕ };
+
+    fn most() -> u32
+        ensures { result ≡ most };
+
+    fn of(n: u32) -> Self
+        requires { n ≤ most }
+        ensures { value result ≡ n };
+}
+
+impl Unsigned for u8 {
+    ghost most = { 255 };
+
+    ghost value = { λ n. n };
+
+    fn most() -> u32 {
+        u8::MAX as u32
+    }
+
+    fn of(n: u32) -> u8 {
+        n as u8
+    }
+}
+
+impl Unsigned for u16 {
+    ghost most = { 65535 };
+
+    ghost value = { λ n. n };
+
+    fn most() -> u32 {
+        u16::MAX as u32
+    }
+
+    fn of(n: u32) -> u16 {
+        n as u16
+    }
+}
+
+impl Unsigned for u32 {
+    ghost most = { 4294967295 };
+
+    ghost value = { λ n. n };
+
+    fn most() -> u32 {
+        u32::MAX
+    }
+
+    fn of(n: u32) -> u32 {
+        n
+    }
+}
+
+// Some digit comes first, and no zero before another.
 fn is_led(w: &[u8]) -> bool
     ensures { result ≡ kinds.is_led w.now }
 {
-    if w.len() > 1 {
-        w[0] != 48
-    } else {
-        w.len() == 1
+    match w {
+        [] => false,
+        [_] => true,
+        [first, ..] => *first != b'0',
     }
 }
 
-// Whether v, with the digit d behind it, is at most this.
-fn fits_behind(v: u32, d: u32, most: u32) -> bool
-    requires { d ≤ 9 }
-    ensures { result ≡ leb (10 * v + d) most }
+// The number that digits stand for, where it has at most 32 bits.
+fn digits(w: &[u8]) -> Option<u32>
+    ensures { result ≡ answers.digits_in w.now }
 {
-    if d > most {
-        return false;
-    }
-    v <= (most - d) / 10
-}
-
-fn no_number() -> Number
-    ensures { result ≡ record { value = 0; is = false } }
-{
-    Number {
-        value: 0,
-        is: false,
-    }
-}
-
-// A number that is above `most` once, stays so.
-fn digits(w: &[u8], most: u32) -> Number
-    ensures { Reads (all_digits w.now && leb (value 0 w.now) most) w.now result }
-{
-    let mut v: u32 = 0;
-    let mut k = 0;
-    while k < w.len() {
-        let digit = w[k];
-        if within(digit, 48, 57) {
-            let d = (digit - 48) as u32;
-            if fits_behind(v, d, most) {
-                v = 10 * v + d;
-                k += 1;
-            } else {
-                return no_number();
-            }
-        } else {
-            return no_number();
+    let mut value: u32 = 0;
+    for b in w {
+        if !matches!(*b, b'0'..=b'9') {
+            return None;
         }
+        value = value.checked_mul(10)?.checked_add((*b - b'0') as u32)?;
     }
-    Number { value: v, is: true }
+    Some(value)
 }
 
-fn number_in(w: &[u8], most: u32) -> Number
-    ensures { Reads (is_number most w.now) w.now result }
+#[tactic(auto, unfolding(crate::specs::Kinds::is_number))]
+fn number_in(w: &[u8], most: u32) -> Option<u32>
+    ensures { result ≡ answers.number_in most w.now }
 {
-    if is_led(w) {
-        digits(w, most)
-    } else {
-        no_number()
+    if !is_led(w) {
+        return None;
     }
+    let value = digits(w)?;
+    if value <= most { Some(value) } else { None }
 }
 
 // ---- letters
 
+#[tactic(auto, unfolding(crate::specs::Kinds::is_letter))]
 fn is_letter(w: &[u8]) -> bool
     ensures { result ≡ kinds.is_letter w.now }
 {
-    if w.len() != 1 {
-        return false;
-    }
-    if w[0] == 48 {
-        true
-    } else {
-        within(w[0], 65, 90)
-    }
+    matches!(w, [b'0' | b'A'..=b'Z'])
 }
 
+#[tactic(auto, unfolding(crate::specs::Kinds::letter_of))]
 fn letter_in(w: &[u8]) -> u8
     ensures { result ≡ kinds.letter_of w.now }
 {
-    if w.len() != 1 {
-        return 0;
+    match w {
+        [b @ b'A'..=b'Z'] => *b,
+        _ => 0,
     }
-    if within(w[0], 65, 90) { w[0] } else { 0 }
 }
 
 // ---- bytes
 
-fn is_hex(b: u8) -> bool
-    ensures { result ≡ kinds.is_hex b }
+fn hex_value(b: u8) -> Option<u8>
+    ensures { result ≡ answers.hex_digit b }
 {
-    if within(b, 48, 57) {
-        true
-    } else {
-        within(b, 97, 102)
+    match b {
+        b'0'..=b'9' => Some(b - b'0'),
+        b'a'..=b'f' => Some(b - b'a' + 10),
+        _ => None,
     }
-}
-
-fn hex_value(b: u8) -> u8
-    requires { kinds.is_hex b ≡ true }
-    ensures { (result ≡ kinds.hex_value b) × (result ≤ 15) }
-{
-    if within(b, 48, 57) { b - 48 } else { b - 87 }
 }
 
 // The byte of two hexadecimal digits.
-fn hex_pair(w: &[u8], a: u8, b: u8, next: usize) -> Next
-    requires { next ≤ length w.now }
-    ensures { Tells w.now result (kinds.hex_pair a b (drop next w.now)) }
+fn hex_pair(a: u8, b: u8, rest: &[u8]) -> Option<Next<'_>>
+    ensures { answers.piece_of result ≡ kinds.hex_pair a b rest.now }
 {
-    if both(is_hex(a), is_hex(b)) {
-        Next::Byte(16 * hex_value(a) + hex_value(b), next)
-    } else {
-        Next::Wrong
+    let high = hex_value(a)?;
+    let low = hex_value(b)?;
+    Some(Next::Byte(16 * high + low, rest))
+}
+
+#[tactic(auto, unfolding(crate::specs::Kinds::piece))]
+fn text_piece(w: &[u8]) -> Option<Next<'_>>
+    ensures { answers.piece_of result ≡ kinds.piece true w.now }
+{
+    match w {
+        [b'"'] => Some(Next::Ends),
+        [b'\\', b'x', a, b, rest @ ..] => hex_pair(*a, *b, rest),
+        [b, rest @ ..] if text_words::is_plain(*b) => Some(Next::Byte(*b, rest)),
+        _ => None,
     }
 }
 
-// Behind a backslash.
-fn escape(w: &[u8], at: usize) -> Next
-    requires { at ≤ length w.now }
-    ensures { Tells w.now result (kinds.escape (drop at w.now)) }
+#[tactic(auto, unfolding(crate::specs::Kinds::piece))]
+fn run_piece(w: &[u8]) -> Option<Next<'_>>
+    ensures { answers.piece_of result ≡ kinds.piece false w.now }
 {
-    if w.len() - at < 3 {
-        return Next::Wrong;
-    }
-    if w[at] == 120 {
-        hex_pair(w, w[at + 1], w[at + 2], at + 3)
-    } else {
-        Next::Wrong
+    match w {
+        [] => Some(Next::Ends),
+        [a, b, rest @ ..] => hex_pair(*a, *b, rest),
+        _ => None,
     }
 }
 
-fn text_piece(w: &[u8], at: usize) -> Next
-    requires { at ≤ length w.now }
-    ensures { Tells w.now result (kinds.piece true (drop at w.now)) }
+fn piece(w: &[u8], quoted: bool) -> Option<Next<'_>>
+    ensures { answers.piece_of result ≡ kinds.piece quoted w.now }
 {
-    if at == w.len() {
-        return Next::Wrong;
-    }
-    let b = w[at];
-    let next = at + 1;
-    if b == 34 {
-        if next == w.len() {
-            return Next::Ends;
-        }
-        return Next::Wrong;
-    }
-    if b == 92 {
-        return escape(w, next);
-    }
-    if text_words::is_plain(b) {
-        Next::Byte(b, next)
-    } else {
-        Next::Wrong
-    }
-}
-
-fn run_piece(w: &[u8], at: usize) -> Next
-    requires { at ≤ length w.now }
-    ensures { Tells w.now result (kinds.piece false (drop at w.now)) }
-{
-    if at == w.len() {
-        return Next::Ends;
-    }
-    if at + 1 == w.len() {
-        return Next::Wrong;
-    }
-    hex_pair(w, w[at], w[at + 1], at + 2)
-}
-
-fn piece(w: &[u8], at: usize, quoted: bool) -> Next
-    requires { at ≤ length w.now }
-    ensures { Tells w.now result (kinds.piece quoted (drop at w.now)) }
-{
-    if quoted {
-        text_piece(w, at)
-    } else {
-        run_piece(w, at)
-    }
+    if quoted { text_piece(w) } else { run_piece(w) }
 }
 
 // ---- bytes gathered
 
-fn kept_none() -> Kept
-    ensures { result ≡ kept_of none }
-{
-    Kept {
-        bytes: [0u8; 13],
-        len: 0,
-        is: false,
-    }
-}
-
-// All bytes from a place to the end.
-fn gather(w: &[u8], from: usize, quoted: bool) -> Kept
-    requires { from ≤ length w.now }
-    ensures { result ≡ kept_of (kinds.bytes_from quoted 13 (drop from w.now)) }
+// All bytes to the end.
+fn gather(w: &[u8], quoted: bool) -> Option<Kept>
+    ensures { result ≡ answers.kept_of (kinds.bytes_from quoted 13 w.now) }
 {
     let mut bytes = [0u8; 13];
-    let mut len = 0;
-    let mut at = from;
-    while len < 13 {
-        match piece(w, at, quoted) {
-            Next::Byte(b, next) => {
+    let mut rest = w;
+    for len in 0..13 {
+        match piece(rest, quoted)? {
+            Next::Byte(b, behind) => {
                 bytes[len] = b;
-                len += 1;
-                at = next;
+                rest = behind;
             }
-            Next::Ends => {
-                return Kept {
-                    bytes,
-                    len,
-                    is: true,
-                };
-            }
-            Next::Wrong => return kept_none(),
+            Next::Ends => return Some(Kept { bytes, len }),
         }
     }
-    match piece(w, at, quoted) {
-        Next::Ends => Kept {
-            bytes,
-            len,
-            is: true,
-        },
-        Next::Byte(_, _) => kept_none(),
-        Next::Wrong => kept_none(),
+    match piece(rest, quoted)? {
+        Next::Byte(_, _) => None,
+        Next::Ends => Some(Kept { bytes, len: 13 }),
     }
 }
 
-fn text_in(w: &[u8]) -> Kept
-    ensures { result ≡ kept_of (kinds.text_of w.now) }
+#[tactic(auto, unfolding(crate::specs::Kinds::text_of))]
+fn text_in(w: &[u8]) -> Option<Kept>
+    ensures { result ≡ answers.kept_of (kinds.text_of w.now) }
 {
-    if w.len() == 0 {
-        return kept_none();
-    }
-    if w[0] == b'"' {
-        gather(w, 1, true)
-    } else {
-        kept_none()
+    match w {
+        [b'"', rest @ ..] => gather(rest, true),
+        _ => None,
     }
 }
 
-fn run_in(w: &[u8]) -> Kept
-    ensures { result ≡ kept_of (kinds.run_of w.now) }
+#[tactic(auto, unfolding(crate::specs::Kinds::run_of))]
+fn run_in(w: &[u8]) -> Option<Kept>
+    ensures { result ≡ answers.kept_of (kinds.run_of w.now) }
 {
-    if w.len() == 0 {
-        return kept_none();
-    }
-    gather(w, 0, false)
+    if w.is_empty() { None } else { gather(w, false) }
 }
 
 // ---- forms
 
+#[tactic(auto, unfolding(crate::specs::Kinds::most_of))]
 fn most_of(k: u8) -> u32
     ensures { result ≡ kinds.most_of k }
 {
-    if k == b'f' {
-        return 1;
+    match k {
+        b'f' => 1,
+        b't' => 3,
+        b's' => 6,
+        b'b' => 255,
+        b'h' => 65535,
+        _ => 4294967295,
     }
-    if k == b't' {
-        return 3;
-    }
-    if k == b's' {
-        return 6;
-    }
-    if k == b'b' {
-        return 255;
-    }
-    if k == b'h' {
-        return 65535;
-    }
-    4294967295
 }
 
+#[tactic(auto, unfolding(crate::specs::Kinds::may_be))]
 fn may_be(k: u8, w: &[u8]) -> bool
     ensures { result ≡ kinds.may_be k w.now }
 {
-    if k == b'L' {
-        return is_letter(w);
+    match k {
+        b'L' => is_letter(w),
+        b'q' => text_in(w).is_some(),
+        b'x' => run_in(w).is_some(),
+        _ => number_in(w, most_of(k)).is_some(),
     }
-    if k == b'q' {
-        return text_in(w).is;
-    }
-    if k == b'x' {
-        return run_in(w).is;
-    }
-    number_in(w, most_of(k)).is
 }
 
+#[tactic(auto, unfolding(crate::specs::Kinds::may))]
 fn may(f: &[u8], w: &[u8]) -> bool
     ensures { result ≡ kinds.may f.now w.now }
 {
-    if f.len() == 1 {
-        may_be(f[0], w)
-    } else {
-        text_words::same(f, w)
+    match f {
+        [k] => may_be(*k, w),
+        _ => text_words::same(f, w),
     }
 }
 
@@ -349,49 +267,30 @@ fn may(f: &[u8], w: &[u8]) -> bool
 pub fn fits(l: &[u8], form: &[u8]) -> bool
     ensures { result ≡ kinds.fits (words form.now) (words l.now) }
 {
-    let mut k = 0;
-    while may(text_words::word(form, k), text_words::word(l, k)) {
-        if text_words::last_word(form, k) {
-            return text_words::last_word(l, k);
-        }
-        if text_words::last_word(l, k) {
-            return false;
-        }
-        k += 1;
-    }
-    false
+    let n = text_words::count(form);
+    (0..n).all(|k| may(text_words::word(form, k), text_words::word(l, k)))
+        && text_words::count(l) == n
 }
 
 // ---- the word at k of a line
 
-pub fn number32(l: &[u8], k: usize) -> u32
-    ensures { result ≡ kinds.number_of 4294967295 (l.now word k) }
+pub fn number<N: Unsigned>(l: &[u8], k: usize) -> N
+    ensures { N.value result ≡ kinds.number_of N.most (l.now word k) }
 {
-    number_in(text_words::word(l, k), 4294967295).value
-}
-
-pub fn number16(l: &[u8], k: usize) -> u16
-    ensures { result ≡ kinds.number_of 65535 (l.now word k) }
-{
-    number_in(text_words::word(l, k), 65535).value as u16
-}
-
-pub fn number8(l: &[u8], k: usize) -> u8
-    ensures { result ≡ kinds.number_of 255 (l.now word k) }
-{
-    number_in(text_words::word(l, k), 255).value as u8
+    N::of(number_in(text_words::word(l, k), N::most()).unwrap_or(0))
 }
 
 pub fn is_byte(l: &[u8], k: usize) -> bool
     ensures { result ≡ is_number 255 (l.now word k) }
 {
-    number_in(text_words::word(l, k), 255).is
+    number_in(text_words::word(l, k), 255).is_some()
 }
 
+#[tactic(auto, unfolding(crate::specs::Kinds::flag_of, crate::specs::Kinds::number_of))]
 pub fn flag(l: &[u8], k: usize) -> bool
     ensures { result ≡ kinds.flag_of (l.now word k) }
 {
-    number_in(text_words::word(l, k), 1).value == 1
+    number_in(text_words::word(l, k), 1) == Some(1)
 }
 
 pub fn letter(l: &[u8], k: usize) -> u8
@@ -407,14 +306,14 @@ pub fn is_word(l: &[u8], k: usize, w: &[u8]) -> bool
 }
 
 // The bytes of a text, or of a run.
-pub fn text(l: &[u8], k: usize) -> Kept
-    ensures { result ≡ kept_of (kinds.text_of (l.now word k)) }
+pub fn text(l: &[u8], k: usize) -> Option<Kept>
+    ensures { result ≡ answers.kept_of (kinds.text_of (l.now word k)) }
 {
     text_in(text_words::word(l, k))
 }
 
-pub fn run(l: &[u8], k: usize) -> Kept
-    ensures { result ≡ kept_of (kinds.run_of (l.now word k)) }
+pub fn run(l: &[u8], k: usize) -> Option<Kept>
+    ensures { result ≡ answers.kept_of (kinds.run_of (l.now word k)) }
 {
     run_in(text_words::word(l, k))
 }

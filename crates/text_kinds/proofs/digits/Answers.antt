@@ -1,70 +1,44 @@
--- `text_kinds::digits` meets its contract. The invariant: the bytes passed are digits, and v is the number that they stand for, at most `most`.
--- Assumes nothing.
-use Prim.Native.Nat.{◌+◌, ◌-◌, ◌*◌, ◌≤◌}
-use mathlib.Core.Bool.{true}
-use mathlib.Core.Path.{◌≡◌, refl, sym, ◌∙◌}
-use native.Mathlib.Omega.{arith}
-use borrow.Author.Tests.{leb-true, leb-false, le-leb, lt-leb}
-use borrow.Author.Rules.{rules}
-use lib.Dec.{leb}
-use lib.ListN.{drop, get_or}
+-- `text_kinds::digits` meets its contract. The invariant: what is left stands for the number, behind the digits read. Assumes nothing.
+use Rattle.std.specs.Prelude.{ℕ, ◌+◌, ◌-◌, ◌*◌, ◌<◌, ◌≤◌, ◌≡◌, true, None, List, [], ◌∷◌, length, get_or, drop}
+use Rattle.std.proofs.Common.{◌∙◌, arith, le-leb, add-one, drop-cons, drop_of_length-le}
+use Rattle.std.proofs.Math.Bool.{and-false}
+use Rattle.std.proofs.lemmas.Bool.{lt-leb}
 use Rattle.text_kinds.specs.Kinds.{all_digits, value}
-use Rattle.text_kinds.specs.Laws.{and_false, none_read, within_true, no_digit, digit_more, value_more, digits_over, value_grows}
+use Rattle.text_kinds.specs.Answers.{digits_in}
 use Rattle.text_kinds.proofs.digits.Goals as goal
 
-pub loop-k-init : goal.loop-k-init
-loop-k-init c = (omega arith, omega arith, refl, refl)
+value_grows : (v : ℕ) (w : List ℕ) → v ≤ value v w
+value_grows v [] = omega arith
+value_grows v (b ∷ w) = omega (arith, value_grows (10 * v + (b - 48)) w)
 
-pub loop-k-preserved : goal.loop-k-preserved
-loop-k-preserved c =
-    let small : 10 * c.loop-k.v + (get_or c.args.w.now c.loop-k.k 0 - 48) ≤ c.args.most = leb-true _ _ (sym c.fits_behind.ensures ∙ c.if-fits_behind.true) in
-    let w = c.args.w.now in
-    let i = c.loop-k.invariant in
-    (search rules, small, i.2 ∙ digit_more w c.loop-k.k (search rules) (sym c.within.ensures ∙ c.if-within.true), i.3 ∙ value_more w c.loop-k.k (search rules) c.loop-k.v)
+leb-not : {a b : ℕ} → (a < b → ⊥) → b ≤ a
+leb-not {a} {b} h = omega (arith, h)
 
-pub returns-else-fits_behind : goal.returns-else-fits_behind
-returns-else-fits_behind c =
-    let w = c.args.w.now in
-    let v = 10 * c.loop-k.v + (get_or w c.loop-k.k 0 - 48) in
-    let over = leb-false v c.args.most (sym c.fits_behind.ensures ∙ c.if-fits_behind.false) in
-    let is : value 0 w ≡ value v (drop (c.loop-k.k + 1) w) = c.loop-k.invariant.3 ∙ value_more w c.loop-k.k (search rules) c.loop-k.v in
-    none_read (rw (lt-leb (value 0 w) c.args.most (omega (arith, is, over, value_grows v (drop (c.loop-k.k + 1) w)))) (and_false (all_digits w))) c.no_number.ensures
+module _ (w : List ℕ) (i v : ℕ) (is : value 0 w ≡ value v (drop i w)) where
+  next : i < length w → value 0 w ≡ value (10 * v + (get_or w i 0 - 48)) (drop (i + 1) w)
+  next h = rw (drop-cons w i 0 h, ← add-one) at is
 
-pub returns-else-within : goal.returns-else-within
-returns-else-within c =
-    let w = c.args.w.now in
-    none_read (rw (c.loop-k.invariant.2 ∙ no_digit w c.loop-k.k (search rules) (sym c.within.ensures ∙ c.if-within.false))) c.no_number-else-within.ensures
+  too_large : i < length w → 4294967295 < 10 * v + (get_or w i 0 - 48) → None ≡ digits_in w
+  too_large h over = rw (lt-leb (value 0 w) 4294967295 (omega (arith, next h, value_grows (10 * v + (get_or w i 0 - 48)) (drop (i + 1) w))), and-false (all_digits w))
+
+pub returns-in_err-checked_mul : goal.returns-in_err-checked_mul
+returns-in_err-checked_mul c =
+    let over = rw c.in_err-checked_mul.was at c.checked_mul.ensures in
+    let large : 4294967296 ≤ c.loop-b.value * 10 = leb-not over in
+    c.from_residual.ensures ∙ too_large _ _ _ c.loop-b.invariant.is c.loop-b-test.true (omega (arith, large))
+
+pub returns-in_err-value : goal.returns-in_err-value
+returns-in_err-value c =
+    let ten = rw c.in_ok-checked_mul.was at c.checked_mul.ensures in
+    let over = rw c.in_err-value.was at c.checked_add.ensures in
+    let large : 4294967296 ≤ c.in_ok-checked_mul.field-0 + (get_or c.args.w.now c.loop-b.b-index 0 - 48) = leb-not over in
+    c.from_residual-in_err-value.ensures ∙ too_large _ _ _ c.loop-b.invariant.is c.loop-b-test.true (omega (arith, large, ten.1))
 
 pub returns : goal.returns
 returns c =
     let w = c.args.w.now in
-    let o = digits_over w c.loop-k.k (search rules) in
-    let is : value 0 w ≡ c.loop-k.v = c.loop-k.invariant.3 ∙ o.1 c.loop-k.v in
-    let all : all_digits w ≡ true = c.loop-k.invariant.2 ∙ o.0 in
-    let most : leb c.loop-k.v c.args.most ≡ true = le-leb _ _ c.loop-k.invariant.1 in
-    record { told = rw (all, is, most); number = rw (all, is, most) }
-
-pub overflow_sub-d : goal.overflow_sub-d
-overflow_sub-d c =
-    let digit : let b = get_or c.args.w.now c.loop-k.k 0 in (48 ≤ b) × (b ≤ 57) = within_true 48 57 _ (sym c.within.ensures ∙ c.if-within.true) in
-    (digit).0
-
-pub overflow_cast-d : goal.overflow_cast-d
-overflow_cast-d c =
-    let digit : let b = get_or c.args.w.now c.loop-k.k 0 in (48 ≤ b) × (b ≤ 57) = within_true 48 57 _ (sym c.within.ensures ∙ c.if-within.true) in
-    omega (arith, (digit).1)
-
-pub fits_behind-requires : goal.fits_behind-requires
-fits_behind-requires c =
-    let digit : let b = get_or c.args.w.now c.loop-k.k 0 in (48 ≤ b) × (b ≤ 57) = within_true 48 57 _ (sym c.within.ensures ∙ c.if-within.true) in
-    omega (arith, (digit).1)
-
-pub overflow_mul-v : goal.overflow_mul-v
-overflow_mul-v c =
-    let small : 10 * c.loop-k.v + (get_or c.args.w.now c.loop-k.k 0 - 48) ≤ c.args.most = leb-true _ _ (sym c.fits_behind.ensures ∙ c.if-fits_behind.true) in
-    omega (arith, small)
-
-pub overflow_add-v : goal.overflow_add-v
-overflow_add-v c =
-    let small : 10 * c.loop-k.v + (get_or c.args.w.now c.loop-k.k 0 - 48) ≤ c.args.most = leb-true _ _ (sym c.fits_behind.ensures ∙ c.if-fits_behind.true) in
-    omega (arith, small)
+    let i = c.loop-b.invariant in
+    let none : drop c.loop-b.b-index w ≡ [] = drop_of_length-le w c.loop-b-test.false in
+    let is : value 0 w ≡ c.loop-b.value = rw none at i.is in
+    let all : all_digits w ≡ true = rw none at i.all in
+    rw (all, is, le-leb c.loop-b.value 4294967295 i.fits)

@@ -1,13 +1,11 @@
--- `text_kinds::digits` meets its contract. The invariant: the bytes passed are digits, and v is the number that they stand for, at most `most`.
--- Assumes nothing.
-use Prim.Native.Nat.{◌-◌, ◌≤◌}
-use mathlib.Core.Path.{◌≡◌}
-use lib.ListN.{length, drop}
+-- `text_kinds::digits` meets its contract. The invariant: what is left stands for the number, behind the digits read. Assumes nothing.
+use Rattle.std.specs.Prelude.{◌≤◌, ◌≡◌, drop}
 use Rattle.text_kinds.specs.Kinds.{all_digits, value}
 use Rattle.text_kinds.proofs.digits.Given as goal
 
-abbrev pub invariant-loop-k : goal.invariant-loop-k
-invariant-loop-k l = (l.k ≤ length l.w) × (l.v ≤ l.most) × (all_digits l.w ≡ all_digits (drop l.k l.w)) × (value 0 l.w ≡ value l.v (drop l.k l.w))
-
-abbrev pub decreases-loop-k : goal.decreases-loop-k
-decreases-loop-k l = length l.w - l.k
+abbrev pub invariant-loop-b : goal.invariant-loop-b
+invariant-loop-b l = record {
+  all : all_digits l.w ≡ all_digits (drop l.b-index l.w);
+  is : value 0 l.w ≡ value l.value (drop l.b-index l.w);
+  fits : l.value ≤ 4294967295;
+}

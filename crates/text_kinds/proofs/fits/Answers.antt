@@ -1,66 +1,44 @@
--- `text_kinds::fits` meets its contract. The invariant: the line has the form where what is left of it has what is left of the form. Assumes nothing.
-use Prim.Native.Nat.{ℕ, suc, ◌+◌, ◌<◌}
-use mathlib.Core.Bool.{false}
-use mathlib.Core.List.{List}
-use mathlib.Core.Path.{refl, sym, ◌∙◌}
-use native.Mathlib.Numerals.{add-one}
-use native.Mathlib.Omega.{arith}
-use borrow.Author.Tests.{leb-true, leb-false}
-use lib.ListN.{length}
+-- `text_kinds::fits` meets its contract: each word may stand for that of the form, and there are as many. Assumes nothing.
+use Rattle.std.specs.Prelude.{ℕ, zero, suc, ◌+◌, ◌≡◌, Bool, ◌&&◌, eqb, List, [], ◌∷◌, length, get_or}
+use Rattle.std.specs.List.{list_all, range_with_len}
+use Rattle.std.proofs.Math.Bool.{and_assoc, and-false}
+use Rattle.std.proofs.Math.Dec.{eqb-suc-zero, eqb-zero-suc, eqb-suc-suc}
+use Rattle.std.proofs.Common.{add-one, refl, sym, ap, ap₂, ◌∙◌, rules, tests}
+use Rattle.std.proofs.lemmas.Iterator.{YieldsList-from_range}
+use Rattle.std.proofs.lemmas.Iterator.Search.{all_from_yields_List}
 use Rattle.text_words.specs.Words.{words}
-use Rattle.text_words.specs.Scan.{words_some, words_few}
-use Rattle.text_kinds.specs.Laws.{other_word, same_word, form_over, line_over}
+use Rattle.text_kinds.specs.Kinds.{may, fits}
 use Rattle.text_kinds.proofs.fits.Goals as goal
 
-pub loop-k-init : goal.loop-k-init
-loop-k-init c = record { form_left = words_some false _; line_left = words_some false _; is = refl }
+-- whether the word at a place may stand for that of the form
+abbrev fit_at : List (List ℕ) → List (List ℕ) → ℕ → Bool
+fit_at fs ws k = may (get_or fs k []) (get_or ws k [])
 
-pub returns : goal.returns
-returns c =
-    let i = c.loop-k.invariant in
-    sym (i.is ∙ other_word _ _ _ i.form_left i.line_left (rw (c.word-in-loop-k.ensures, c.word.ensures) at (sym c.may.ensures ∙ c.loop-k-test.false)))
+shifted : (p q : ℕ → Bool) → ((k : ℕ) → p (k + 1) ≡ q k) → (a n : ℕ) → list_all p (range_with_len (a + 1) n) ≡ list_all q (range_with_len a n)
+shifted p q e a zero = refl
+shifted p q e a (suc n) = rw (e a, shifted p q e (a + 1) n)
 
-pub returns-then-last_word : goal.returns-then-last_word
-returns-then-last_word c =
-    let i = c.loop-k.invariant in
-    let fs : List (List ℕ) = words c.args.form.now in
-    let ws : List (List ℕ) = words c.args.l.now in
-    let k : ℕ = c.loop-k.k in
-    let passed = i.is ∙ same_word fs ws k i.form_left i.line_left (rw (c.word-in-loop-k.ensures, c.word.ensures) at (sym c.may.ensures ∙ c.loop-k-test.true)) in
-    let over = leb-true (length fs) (suc k) (sym c.last_word.ensures ∙ c.if-last_word.true) in
-    c.last_word-then-last_word.ensures ∙ sym (rw (add-one) at (passed ∙ form_over fs ws (k + 1) (omega (arith, over))))
+fits_are : (fs ws : List (List ℕ)) → fits fs ws ≡ (list_all (fit_at fs ws) (range_with_len 0 (length fs)) && eqb (length ws) (length fs))
+unfolding fits
+fits_are [] [] = refl
+fits_are [] (w ∷ ws) = sym (eqb-suc-zero (length ws))
+fits_are (f ∷ fs) [] = rw (eqb-zero-suc (length fs)) (sym (and-false (list_all (fit_at (f ∷ fs) []) (range_with_len 0 (suc (length fs))))))
+fits_are (f ∷ fs) (w ∷ ws) =
+    let behind = shifted (fit_at (f ∷ fs) (w ∷ ws)) (fit_at fs ws) (λ k. rw (add-one k)) 0 (length fs) in
+    ap (λ t. may f w && t) (fits_are fs ws)
+    ∙ sym (and_assoc (may f w) (list_all (fit_at fs ws) (range_with_len 0 (length fs))) (eqb (length ws) (length fs)))
+    ∙ ap₂ (λ t u. (may f w && t) && u) (sym behind) (sym (eqb-suc-suc (length ws) (length fs)))
 
-pub returns-then-last_word-2 : goal.returns-then-last_word-2
-returns-then-last_word-2 c =
-    let i = c.loop-k.invariant in
-    let fs : List (List ℕ) = words c.args.form.now in
-    let ws : List (List ℕ) = words c.args.l.now in
-    let k : ℕ = c.loop-k.k in
-    let passed = i.is ∙ same_word fs ws k i.form_left i.line_left (rw (c.word-in-loop-k.ensures, c.word.ensures) at (sym c.may.ensures ∙ c.loop-k-test.true)) in
-    let more : k + 1 < length fs = omega (arith, leb-false (length fs) (suc k) (sym c.last_word.ensures ∙ c.if-last_word.false)) in
-    let over = leb-true (length ws) (suc k) (sym c.last_word-in-loop-k.ensures ∙ c.if-last_word-2.true) in
-    sym (passed ∙ line_over fs ws (k + 1) more (omega (arith, over)))
+pub returns-then-all : goal.returns-then-all
+returns-then-all c =
+    let fs = words c.args.form.now in
+    let ws = words c.args.l.now in
+    let all = all_from_yields_List (fit_at fs ws) _ _ c.all.result c.all.ensures.ran (YieldsList-from_range 0 c.count-n.result (length fs) refl (search rules)) (λ x b q k. search (rules, tests)) in
+    rw (c.count.ensures, c.count-n.ensures, fits_are fs ws, ← all, c.if-all.true)
 
-pub overflow_add-k : goal.overflow_add-k
-overflow_add-k c =
-    let fs : List (List ℕ) = words c.args.form.now in
-    let k : ℕ = c.loop-k.k in
-    omega (arith, leb-false (length fs) (suc k) (sym c.last_word.ensures ∙ c.if-last_word.false), words_few false c.args.form.now)
-
-pub loop-k-preserved : goal.loop-k-preserved
-loop-k-preserved c =
-    let i = c.loop-k.invariant in
-    let fs : List (List ℕ) = words c.args.form.now in
-    let ws : List (List ℕ) = words c.args.l.now in
-    let k : ℕ = c.loop-k.k in
-    record {
-      form_left = omega (arith, leb-false (length fs) (suc k) (sym c.last_word.ensures ∙ c.if-last_word.false));
-      line_left = omega (arith, leb-false (length ws) (suc k) (sym c.last_word-in-loop-k.ensures ∙ c.if-last_word-2.false));
-      is = i.is ∙ same_word fs ws k i.form_left i.line_left (rw (c.word-in-loop-k.ensures, c.word.ensures) at (sym c.may.ensures ∙ c.loop-k-test.true));
-    }
-
-pub loop-k-smaller : goal.loop-k-smaller
-loop-k-smaller c =
-    let fs : List (List ℕ) = words c.args.form.now in
-    let k : ℕ = c.loop-k.k in
-    omega (arith, leb-false (length fs) (suc k) (sym c.last_word.ensures ∙ c.if-last_word.false))
+pub returns-else-all : goal.returns-else-all
+returns-else-all c =
+    let fs = words c.args.form.now in
+    let ws = words c.args.l.now in
+    let all = all_from_yields_List (fit_at fs ws) _ _ c.all.result c.all.ensures.ran (YieldsList-from_range 0 c.count-n.result (length fs) refl (search rules)) (λ x b q k. search (rules, tests)) in
+    rw (fits_are fs ws, ← all, c.if-all.false)
