@@ -20,32 +20,32 @@ pub fn point(l: &[u8]) -> HeldPoint
     ensures { result ≡ entries.point_of l.now }
 {
     let point = WhitePoint {
-        index: text_kinds::number8(l, 1),
+        index: text_kinds::number(l, 1),
         place: panel_front::place(l, 2, 3),
         gamma: panel_front::gamma(l, 4),
     };
     HeldPoint {
         point,
-        slot: text_kinds::number16(l, 5),
+        slot: text_kinds::number(l, 5),
     }
 }
 
 pub fn pair(l: &[u8]) -> HeldPair
     ensures { result ≡ entries.pair_of l.now }
 {
-    let width = text_kinds::number16(l, 1);
+    let width = text_kinds::number(l, 1);
     let ratio = Ratio {
-        width: text_kinds::number16(l, 2),
-        height: text_kinds::number16(l, 3),
+        width: text_kinds::number(l, 2),
+        height: text_kinds::number(l, 3),
     };
     let pair = StandardTiming {
         width,
         ratio,
-        rate: text_kinds::number16(l, 4),
+        rate: text_kinds::number(l, 4),
     };
     HeldPair {
         pair,
-        slot: text_kinds::number16(l, 5),
+        slot: text_kinds::number(l, 5),
     }
 }
 
@@ -111,13 +111,13 @@ fn sync_by(n: u8, a: bool, b: bool) -> Sync
 fn pixels(l: &[u8], k: usize) -> Pixels
     ensures { result ≡ pixels (half_at l.now k) }
 {
-    Pixels(text_kinds::number16(l, k))
+    Pixels(text_kinds::number(l, k))
 }
 
 fn lines(l: &[u8], k: usize) -> Lines
     ensures { result ≡ lines (half_at l.now k) }
 {
-    Lines(text_kinds::number16(l, k))
+    Lines(text_kinds::number(l, k))
 }
 
 fn timing(l: &[u8]) -> DetailedTiming
@@ -136,26 +136,26 @@ fn timing(l: &[u8]) -> DetailedTiming
         back: lines(l, 9),
     };
     let size = Size {
-        width: text_kinds::number16(l, 10),
-        height: text_kinds::number16(l, 11),
+        width: text_kinds::number(l, 10),
+        height: text_kinds::number(l, 11),
     };
     let border = Border {
         across: pixels(l, 12),
         down: lines(l, 13),
     };
     let sync = sync_by(
-        text_kinds::number8(l, 16),
+        text_kinds::number(l, 16),
         text_kinds::flag(l, 17),
         text_kinds::flag(l, 18),
     );
     DetailedTiming {
-        clock: text_kinds::number32(l, 1),
+        clock: text_kinds::number(l, 1),
         across,
         down,
         size,
         border,
         interlaced: text_kinds::flag(l, 14),
-        stereo: stereo_by(text_kinds::number8(l, 15)),
+        stereo: stereo_by(text_kinds::number(l, 15)),
         sync,
     }
 }
@@ -165,7 +165,7 @@ pub fn held_timing(l: &[u8]) -> HeldTiming
 {
     HeldTiming {
         timing: timing(l),
-        slot: text_kinds::number16(l, 19),
+        slot: text_kinds::number(l, 19),
     }
 }
 
@@ -190,11 +190,11 @@ fn limits(l: &[u8]) -> Limits
     ensures { result ≡ entries.limits_of l.now }
 {
     Limits {
-        vmin: text_kinds::number16(l, 1),
-        vmax: text_kinds::number16(l, 2),
-        hmin: text_kinds::number32(l, 3),
-        hmax: text_kinds::number32(l, 4),
-        clock: text_kinds::number32(l, 5),
+        vmin: text_kinds::number(l, 1),
+        vmax: text_kinds::number(l, 2),
+        hmin: text_kinds::number(l, 3),
+        hmax: text_kinds::number(l, 4),
+        clock: text_kinds::number(l, 5),
     }
 }
 
@@ -203,7 +203,7 @@ fn entry(l: &[u8], k: usize, descriptor: Descriptor) -> Held
 {
     Held {
         descriptor,
-        slot: text_kinds::number16(l, k),
+        slot: text_kinds::number(l, k),
     }
 }
 
@@ -217,16 +217,16 @@ fn range(l: &[u8], t: Span) -> Held
     }
     if text_kinds::is_word(l, 6, b"gtf") {
         let secondary = SecondaryTiming::GTF {
-            start: text_kinds::number32(l, 7),
-            c: text_kinds::number8(l, 8),
-            m: text_kinds::number16(l, 9),
-            k: text_kinds::number8(l, 10),
-            j: text_kinds::number8(l, 11),
+            start: text_kinds::number(l, 7),
+            c: text_kinds::number(l, 8),
+            m: text_kinds::number(l, 9),
+            k: text_kinds::number(l, 10),
+            j: text_kinds::number(l, 11),
         };
         return entry(l, 12, Descriptor::Range { limits, secondary });
     }
     let secondary = SecondaryTiming::Other {
-        kind: text_kinds::number8(l, 7),
+        kind: text_kinds::number(l, 7),
         data: t,
     };
     entry(l, 9, Descriptor::Range { limits, secondary })
@@ -245,11 +245,11 @@ fn held_by(l: &[u8], t: Span) -> Held
         return entry(l, 2, Descriptor::Name(t));
     }
     if text_kinds::is_word(l, 0, b"undefined") {
-        let tag = text_kinds::number8(l, 1);
+        let tag = text_kinds::number(l, 1);
         return entry(l, 3, Descriptor::Undefined { tag, data: t });
     }
     if text_kinds::is_word(l, 0, b"maker") {
-        let tag = text_kinds::number8(l, 1);
+        let tag = text_kinds::number(l, 1);
         return entry(l, 3, Descriptor::MakerDefined { tag, data: t });
     }
     range(l, t)

@@ -13,16 +13,18 @@ use timing::Size;
 
 // ---- product and version
 
+#[tactic(auto, unfolding(crate::specs::Front::week_of))]
 fn week(l: &[u8]) -> Week
     ensures { result ≡ front.week_of l.now }
 {
     if text_kinds::is_word(l, 6, b"model") {
         Week::ModelYear
     } else {
-        Week::Made(text_kinds::number8(l, 6))
+        Week::Made(text_kinds::number(l, 6))
     }
 }
 
+#[tactic(auto, unfolding(crate::specs::Front::product_of))]
 pub fn product(l: &[u8]) -> Product
     ensures { result ≡ front.product_of l.now }
 {
@@ -31,24 +33,26 @@ pub fn product(l: &[u8]) -> Product
     let third = text_kinds::letter(l, 3);
     Product {
         maker: Maker(first, second, third),
-        code: text_kinds::number16(l, 4),
-        serial: text_kinds::number32(l, 5),
+        code: text_kinds::number(l, 4),
+        serial: text_kinds::number(l, 5),
         week: week(l),
-        year: text_kinds::number16(l, 7),
+        year: text_kinds::number(l, 7),
     }
 }
 
+#[tactic(auto, unfolding(crate::specs::Front::version_of))]
 pub fn version(l: &[u8]) -> Version
     ensures { result ≡ front.version_of l.now }
 {
     Version {
-        version: text_kinds::number8(l, 1),
-        revision: text_kinds::number8(l, 2),
+        version: text_kinds::number(l, 1),
+        revision: text_kinds::number(l, 2),
     }
 }
 
 // ---- display
 
+#[tactic(auto, unfolding(crate::specs::Front::depth_of))]
 fn depth(l: &[u8]) -> Depth
     ensures { result ≡ front.depth_of l.now }
 {
@@ -58,9 +62,10 @@ fn depth(l: &[u8]) -> Depth
     if text_kinds::is_word(l, 1, b"reserved") {
         return Depth::Reserved;
     }
-    Depth::Bits(text_kinds::number8(l, 1))
+    Depth::Bits(text_kinds::number(l, 1))
 }
 
+#[tactic(auto, unfolding(crate::specs::Front::analog_of))]
 fn analog(l: &[u8]) -> VideoInput
     ensures { result ≡ front.analog_of l.now }
 {
@@ -71,12 +76,13 @@ fn analog(l: &[u8]) -> VideoInput
         separate: text_kinds::flag(l, 6),
     };
     VideoInput::Analog {
-        level: text_kinds::number8(l, 1),
+        level: text_kinds::number(l, 1),
         setup: text_kinds::flag(l, 2),
         sync,
     }
 }
 
+#[tactic(auto, unfolding(crate::specs::Front::input_of))]
 pub fn input(l: &[u8]) -> VideoInput
     ensures { result ≡ front.input_of l.now }
 {
@@ -90,10 +96,11 @@ pub fn input(l: &[u8]) -> VideoInput
     }
     VideoInput::Interface {
         depth: depth(l),
-        code: text_kinds::number8(l, 2),
+        code: text_kinds::number(l, 2),
     }
 }
 
+#[tactic(auto, unfolding(crate::specs::Front::size_of))]
 pub fn size(l: &[u8]) -> ImageSize
     ensures { result ≡ front.size_of l.now }
 {
@@ -102,42 +109,41 @@ pub fn size(l: &[u8]) -> ImageSize
     }
     if text_kinds::is_word(l, 1, b"ratio") {
         return ImageSize::Ratio(Ratio {
-            width: text_kinds::number16(l, 2),
-            height: text_kinds::number16(l, 3),
+            width: text_kinds::number(l, 2),
+            height: text_kinds::number(l, 3),
         });
     }
     ImageSize::Some(Size {
-        width: text_kinds::number16(l, 1),
-        height: text_kinds::number16(l, 2),
+        width: text_kinds::number(l, 1),
+        height: text_kinds::number(l, 2),
     })
 }
 
 // The word at k.
-pub fn gamma(l: &[u8], k: usize) -> Option<u16>
+#[tactic(auto, unfolding(crate::specs::Front::gamma_at))]
+pub fn gamma(l: &[u8], k: usize) -> Gamma
     ensures { result ≡ front.gamma_at l.now k }
 {
     if text_kinds::is_word(l, k, b"none") {
         None
     } else {
-        Some(text_kinds::number16(l, k))
+        Some(text_kinds::number(l, k))
     }
 }
 
+#[tactic(auto, unfolding(crate::specs::Front::type_of))]
 fn type_of(n: u8) -> DisplayType
     ensures { result ≡ front.type_of n }
 {
-    if n == 0 {
-        return DisplayType::Monochrome;
+    match n {
+        0 => DisplayType::Monochrome,
+        1 => DisplayType::RGBColor,
+        2 => DisplayType::OtherColor,
+        _ => DisplayType::Undefined,
     }
-    if n == 1 {
-        return DisplayType::RGBColor;
-    }
-    if n == 2 {
-        return DisplayType::OtherColor;
-    }
-    DisplayType::Undefined
 }
 
+#[tactic(auto, unfolding(crate::specs::Front::kind_of))]
 fn kind(l: &[u8]) -> Kind
     ensures { result ≡ front.kind_of l.now }
 {
@@ -165,9 +171,10 @@ fn kind(l: &[u8]) -> Kind
             ycrcb422: true,
         };
     }
-    Kind::Typed(type_of(text_kinds::number8(l, 4)))
+    Kind::Typed(type_of(text_kinds::number(l, 4)))
 }
 
+#[tactic(auto, unfolding(crate::specs::Front::features_of))]
 pub fn features(l: &[u8]) -> Features
     ensures { result ≡ front.features_of l.now }
 {
@@ -189,11 +196,12 @@ pub fn place(l: &[u8], j: usize, k: usize) -> Chromaticity
     ensures { result ≡ front.place_at l.now j k }
 {
     Chromaticity {
-        x: text_kinds::number16(l, j),
-        y: text_kinds::number16(l, k),
+        x: text_kinds::number(l, j),
+        y: text_kinds::number(l, k),
     }
 }
 
+#[tactic(auto, unfolding(crate::specs::Front::chroma_of))]
 pub fn chroma(l: &[u8]) -> Chromaticities
     ensures { result ≡ front.chroma_of l.now }
 {

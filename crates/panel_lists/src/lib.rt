@@ -119,7 +119,7 @@ pub fn established(l: &[u8]) -> EstablishedTimings
         if text_words::last_word(l, len) {
             return EstablishedTimings { items, len };
         }
-        items[len] = text_kinds::number8(l, len + 1);
+        items[len] = text_kinds::number(l, len + 1);
         len += 1;
     }
     EstablishedTimings { items, len }

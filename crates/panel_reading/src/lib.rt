@@ -58,7 +58,7 @@ fn record_by(s: &[u8], p: Places) -> StandardRecord
         color: color(s, p),
         timings: timings(s, p),
         descriptors: panel_lists::entries(s, p.entries, p.extensions),
-        extensions: text_kinds::number8(text_lines::content(s, p.extensions), 1),
+        extensions: text_kinds::number(text_lines::content(s, p.extensions), 1),
     }
 }
 
