@@ -1,5 +1,5 @@
 -- What the lines of the slots say in a panel's text: each entry, from the words of its line. The slot's number stands last in each.
-use Rattle.std.specs.Prelude.{ℕ, Bool, true, false, cond, List, eqb}
+use Rattle.std.specs.Prelude.{ℕ, Bool, true, false, cond, Option, Some, None, List, eqb}
 use Rattle.page.specs.Words.{text}
 use Rattle.timing.specs.Axis.{pixels, lines}
 use Rattle.timing.specs.Rest.{polarity_of}
@@ -79,15 +79,20 @@ held_timing_of l = record { timing = timing_of l; slot = half_at l 19 }
 -- ---- descriptors: their bytes are kept from a place on, at most thirteen
 
 -- of a text, or of a run, which stands behind a tag or a kind
-unfoldable pub kept_in : List ℕ → Kept
+unfoldable pub kept_in : List ℕ → Option Kept
 kept_in l =
     cond (is_at l 0 (text "undefined")) (kept_of (run_of (l word 2)))
     (cond (is_at l 0 (text "maker")) (kept_of (run_of (l word 2)))
     (cond (is_at l 6 (text "other")) (kept_of (run_of (l word 8)))
     (kept_of (text_of (l word 1)))))
 
+-- how many there are
+abbrev pub kept_length : Option Kept → ℕ
+kept_length None = 0
+kept_length (Some kept) = kept.len
+
 unfoldable pub span_of : List ℕ → ℕ → Span
-span_of l at = record { start = at; len = (kept_in l).len }
+span_of l at = record { start = at; len = kept_length (kept_in l) }
 
 unfoldable pub limits_of : List ℕ → Limits
 limits_of l = record { vmin = half_at l 1; vmax = half_at l 2; hmin = word_at l 3; hmax = word_at l 4; clock = word_at l 5 }

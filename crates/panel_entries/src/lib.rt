@@ -2,8 +2,6 @@
 #![tactic(auto)]
 
 ghost use Rattle.std.specs.Prelude.{◌≡◌};
-ghost use Rattle.timing.specs.Axis.{pixels, lines};
-ghost use Rattle.panel_front.specs.Front.{half_at};
 ghost use Rattle.panel_entries.specs.Entries as entries;
 
 use standard_record::{
@@ -16,6 +14,7 @@ use timing::{Across, Border, Down, Lines, Pixels, Size, StereoType};
 
 // ---- white points and standard timings
 
+#[tactic(auto, unfolding(crate::specs::Entries::point_of))]
 pub fn point(l: &[u8]) -> HeldPoint
     ensures { result ≡ entries.point_of l.now }
 {
@@ -30,6 +29,7 @@ pub fn point(l: &[u8]) -> HeldPoint
     }
 }
 
+#[tactic(auto, unfolding(crate::specs::Entries::pair_of))]
 pub fn pair(l: &[u8]) -> HeldPair
     ensures { result ≡ entries.pair_of l.now }
 {
@@ -51,28 +51,19 @@ pub fn pair(l: &[u8]) -> HeldPair
 
 // ---- detailed timings
 
+#[tactic(auto, unfolding(crate::specs::Entries::stereo_by))]
 fn stereo_by(n: u8) -> StereoType
     ensures { result ≡ entries.stereo_by n }
 {
-    if n == 0 {
-        return StereoType::None;
+    match n {
+        0 => StereoType::None,
+        1 => StereoType::SequentialRightSync,
+        2 => StereoType::SequentialLeftSync,
+        3 => StereoType::InterleavedLinesRightEven,
+        4 => StereoType::InterleavedLinesLeftEven,
+        5 => StereoType::Interleaved4Way,
+        _ => StereoType::SideBySide,
     }
-    if n == 1 {
-        return StereoType::SequentialRightSync;
-    }
-    if n == 2 {
-        return StereoType::SequentialLeftSync;
-    }
-    if n == 3 {
-        return StereoType::InterleavedLinesRightEven;
-    }
-    if n == 4 {
-        return StereoType::InterleavedLinesLeftEven;
-    }
-    if n == 5 {
-        return StereoType::Interleaved4Way;
-    }
-    StereoType::SideBySide
 }
 
 fn line_by(rgb: bool) -> SyncLine
@@ -81,67 +72,53 @@ fn line_by(rgb: bool) -> SyncLine
     if rgb { SyncLine::RGB } else { SyncLine::Green }
 }
 
+#[tactic(auto, unfolding(crate::specs::Entries::sync_by))]
 fn sync_by(n: u8, a: bool, b: bool) -> Sync
     ensures { result ≡ entries.sync_by n a b }
 {
-    if n == 0 {
-        return Sync::AnalogComposite {
+    match n {
+        0 => Sync::AnalogComposite {
             serrated: a,
             line: line_by(b),
-        };
-    }
-    if n == 1 {
-        return Sync::BipolarAnalogComposite {
+        },
+        1 => Sync::BipolarAnalogComposite {
             serrated: a,
             line: line_by(b),
-        };
-    }
-    if n == 2 {
-        return Sync::DigitalComposite {
+        },
+        2 => Sync::DigitalComposite {
             serrated: a,
             polarity: timing::polarity_of(b),
-        };
+        },
+        _ => Sync::DigitalSeparate {
+            horizontal: timing::polarity_of(a),
+            vertical: timing::polarity_of(b),
+        },
     }
-    Sync::DigitalSeparate {
-        horizontal: timing::polarity_of(a),
-        vertical: timing::polarity_of(b),
-    }
 }
 
-fn pixels(l: &[u8], k: usize) -> Pixels
-    ensures { result ≡ pixels (half_at l.now k) }
-{
-    Pixels(text_kinds::number(l, k))
-}
-
-fn lines(l: &[u8], k: usize) -> Lines
-    ensures { result ≡ lines (half_at l.now k) }
-{
-    Lines(text_kinds::number(l, k))
-}
-
+#[tactic(auto, unfolding(crate::specs::Entries::timing_of))]
 fn timing(l: &[u8]) -> DetailedTiming
     ensures { result ≡ entries.timing_of l.now }
 {
     let across = Across {
-        active: pixels(l, 2),
-        front: pixels(l, 4),
-        sync: pixels(l, 6),
-        back: pixels(l, 8),
+        active: Pixels(text_kinds::number(l, 2)),
+        front: Pixels(text_kinds::number(l, 4)),
+        sync: Pixels(text_kinds::number(l, 6)),
+        back: Pixels(text_kinds::number(l, 8)),
     };
     let down = Down {
-        active: lines(l, 3),
-        front: lines(l, 5),
-        sync: lines(l, 7),
-        back: lines(l, 9),
+        active: Lines(text_kinds::number(l, 3)),
+        front: Lines(text_kinds::number(l, 5)),
+        sync: Lines(text_kinds::number(l, 7)),
+        back: Lines(text_kinds::number(l, 9)),
     };
     let size = Size {
         width: text_kinds::number(l, 10),
         height: text_kinds::number(l, 11),
     };
     let border = Border {
-        across: pixels(l, 12),
-        down: lines(l, 13),
+        across: Pixels(text_kinds::number(l, 12)),
+        down: Lines(text_kinds::number(l, 13)),
     };
     let sync = sync_by(
         text_kinds::number(l, 16),
@@ -160,6 +137,7 @@ fn timing(l: &[u8]) -> DetailedTiming
     }
 }
 
+#[tactic(auto, unfolding(crate::specs::Entries::held_timing_of))]
 pub fn held_timing(l: &[u8]) -> HeldTiming
     ensures { result ≡ entries.held_timing_of l.now }
 {
@@ -171,7 +149,8 @@ pub fn held_timing(l: &[u8]) -> HeldTiming
 
 // ---- descriptors
 
-pub fn kept(l: &[u8]) -> Kept
+#[tactic(auto, unfolding(crate::specs::Entries::kept_in))]
+pub fn kept(l: &[u8]) -> Option<Kept>
     ensures { result ≡ entries.kept_in l.now }
 {
     if text_kinds::is_word(l, 0, b"undefined") {
@@ -186,6 +165,7 @@ pub fn kept(l: &[u8]) -> Kept
     text_kinds::text(l, 1)
 }
 
+#[tactic(auto, unfolding(crate::specs::Entries::limits_of))]
 fn limits(l: &[u8]) -> Limits
     ensures { result ≡ entries.limits_of l.now }
 {
@@ -207,6 +187,7 @@ fn entry(l: &[u8], k: usize, descriptor: Descriptor) -> Held
     }
 }
 
+#[tactic(auto, unfolding(crate::specs::Entries::range_of))]
 fn range(l: &[u8], t: Span) -> Held
     ensures { result ≡ entries.range_of l.now t }
 {
@@ -232,6 +213,7 @@ fn range(l: &[u8], t: Span) -> Held
     entry(l, 9, Descriptor::Range { limits, secondary })
 }
 
+#[tactic(auto, unfolding(crate::specs::Entries::held_by))]
 fn held_by(l: &[u8], t: Span) -> Held
     ensures { result ≡ entries.held_by l.now t }
 {
@@ -256,15 +238,10 @@ fn held_by(l: &[u8], t: Span) -> Held
 }
 
 // Its bytes are kept from `at` on.
+#[tactic(auto, unfolding(crate::specs::Entries::held_of, crate::specs::Entries::span_of))]
 pub fn held(l: &[u8], at: usize) -> Held
     ensures { result ≡ entries.held_of l.now at }
 {
-    let bytes = kept(l);
-    held_by(
-        l,
-        Span {
-            start: at,
-            len: bytes.len,
-        },
-    )
+    let len = kept(l).map_or(0, |kept| kept.len);
+    held_by(l, Span { start: at, len })
 }
