@@ -2,3 +2,4 @@
 pub mod Kinds
 pub mod Answers
 pub mod Gathered
+pub mod Laws

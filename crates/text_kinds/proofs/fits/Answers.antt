@@ -1,5 +1,5 @@
 -- `text_kinds::fits` meets its contract: each word may stand for that of the form, and there are as many. Assumes nothing.
-use Rattle.std.specs.Prelude.{ℕ, zero, suc, ◌+◌, ◌≡◌, Bool, ◌&&◌, eqb, List, [], ◌∷◌, length, get_or}
+use Rattle.std.specs.Prelude.{ℕ, suc, ◌≡◌, Bool, ◌&&◌, eqb, List, [], ◌∷◌, length, get_or}
 use Rattle.std.specs.List.{list_all, range_with_len}
 use Rattle.std.proofs.Math.Bool.{and_assoc, and-false}
 use Rattle.std.proofs.Math.Dec.{eqb-suc-zero, eqb-zero-suc, eqb-suc-suc}
@@ -8,15 +8,12 @@ use Rattle.std.proofs.lemmas.Iterator.{YieldsList-from_range}
 use Rattle.std.proofs.lemmas.Iterator.Search.{all_from_yields_List}
 use Rattle.text_words.specs.Words.{words}
 use Rattle.text_kinds.specs.Kinds.{may, fits}
+use Rattle.text_kinds.specs.Laws.{shifted}
 use Rattle.text_kinds.proofs.fits.Goals as goal
 
 -- whether the word at a place may stand for that of the form
 abbrev fit_at : List (List ℕ) → List (List ℕ) → ℕ → Bool
 fit_at fs ws k = may (get_or fs k []) (get_or ws k [])
-
-shifted : (p q : ℕ → Bool) → ((k : ℕ) → p (k + 1) ≡ q k) → (a n : ℕ) → list_all p (range_with_len (a + 1) n) ≡ list_all q (range_with_len a n)
-shifted p q e a zero = refl
-shifted p q e a (suc n) = rw (e a, shifted p q e (a + 1) n)
 
 fits_are : (fs ws : List (List ℕ)) → fits fs ws ≡ (list_all (fit_at fs ws) (range_with_len 0 (length fs)) && eqb (length ws) (length fs))
 unfolding fits
