@@ -217,7 +217,7 @@ fn ended_lines(page: &mut Page, s: &[u8], e: EDID, end: End)
 pub fn listing(out: &mut [u8; 4096], s: &[u8], t: Reading) -> usize
     ensures { (take result out.new ≡ lines.listing_of s.now t) × (drop result out.new ≡ drop result out.old) }
 {
-    let mut page = Page::new(out);
+    let mut page = Page { out, at: 0 };
     ended_lines(&mut page, s, t.edid, t.end);
-    page.len()
+    page.at
 }

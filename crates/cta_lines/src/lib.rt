@@ -111,7 +111,7 @@ pub fn listing(out: &mut [u8; 4096], s: &[u8]) -> usize
     ensures { (take result out.new ≡ lines.listing_of s.now) × (drop result out.new ≡ drop result out.old) }
 {
     let t = cta_reading::read_cta(s);
-    let mut page = Page::new(out);
+    let mut page = Page { out, at: 0 };
     judged_lines(&mut page, s, t.cta, t.end);
-    page.len()
+    page.at
 }

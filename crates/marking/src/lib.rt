@@ -160,7 +160,7 @@ fn marks_lines(page: &mut Page, m: Marks)
 pub fn listing(out: &mut [u8; 4096], block: &[u8]) -> usize
     ensures { (take result out.new ≡ lines.marks_lines (marks_in block.now)) × (drop result out.new ≡ drop result out.old) }
 {
-    let mut page = Page::new(out);
+    let mut page = Page { out, at: 0 };
     marks_lines(&mut page, marks_of(block));
-    page.len()
+    page.at
 }

@@ -45,7 +45,7 @@ fn shown_line<'a>(page: &mut Page, panel: &'a [u8], reference: &'a [u8])
 pub fn listing<'a>(out: &mut [u8; 4096], panel: &'a [u8], reference: &'a [u8]) -> usize
     ensures { (take result out.new ≡ lines.answer panel.now reference.now) × (drop result out.new ≡ drop result out.old) }
 {
-    let mut page = Page::new(out);
+    let mut page = Page { out, at: 0 };
     shown_line(&mut page, panel, reference);
-    page.len()
+    page.at
 }

@@ -10,8 +10,8 @@ ghost use Rattle.page.specs.Words as words;
 // A page that is lent, of which the first `at` bytes are used.
 #[derive(Drop)]
 pub struct Page<'a> {
-    out: &'a mut [u8; 4096],
-    at: usize,
+    pub out: &'a mut [u8; 4096],
+    pub at: usize,
 }
 
 // A number of a line: what it is as text, with a space before it.
@@ -60,31 +60,6 @@ impl Number for u8 {
 }
 
 impl<'a> Page<'a> {
-    // A page with nothing on it yet.
-    pub fn new(out: &'a mut [u8; 4096]) -> Page<'a>
-        ensures lent { result.out.ghost_name ≡ out.entry.ghost_name }
-        ensures bytes { result.out.now ≡ out.old }
-        ensures used { result.at ≡ 0 }
-    {
-        Page { out, at: 0 }
-    }
-
-    // A page of which n bytes are used already.
-    pub fn after(out: &'a mut [u8; 4096], n: usize) -> Page<'a>
-        ensures lent { result.out.ghost_name ≡ out.entry.ghost_name }
-        ensures bytes { result.out.now ≡ out.old }
-        ensures used { result.at ≡ n }
-    {
-        Page { out, at: n }
-    }
-
-    // How many bytes are used.
-    pub fn len(&self) -> usize
-        ensures { result ≡ self.now.at }
-    {
-        self.at
-    }
-
     // One byte.
     pub fn put(&mut self, b: u8)
         ensures { self.new ≡ self.old ▷ (b ∷ []) }
@@ -185,8 +160,8 @@ impl<'a> Page<'a> {
     fn hex_run(&mut self, s: &[u8])
         ensures { self.new ≡ self.old ▷ words.each words.hex_of2 s.now }
     {
-        for b in s {
-            self.hex2(u32::from(*b));
+        for x in s {
+            self.hex2(u32::from(*x));
         }
     }
 

@@ -116,7 +116,7 @@ fn judged_text(page: &mut Page, s: &[u8], e: StandardRecord, end: Verdict)
 pub fn panel(out: &mut [u8; 4096], s: &[u8], t: StandardReading) -> usize
     ensures { (take result out.new ≡ lines.panel_text s.now t) × (drop result out.new ≡ drop result out.old) }
 {
-    let mut page = Page::new(out);
+    let mut page = Page { out, at: 0 };
     judged_text(&mut page, s, t.edid, t.end);
-    page.len()
+    page.at
 }

@@ -129,7 +129,7 @@ fn answer_lines(page: &mut Page, s: &[u8])
 pub fn listing(out: &mut [u8; 4096], s: &[u8]) -> usize
     ensures { (take result out.new ≡ lines.answer s.now) × (drop result out.new ≡ drop result out.old) }
 {
-    let mut page = Page::new(out);
+    let mut page = Page { out, at: 0 };
     answer_lines(&mut page, s);
-    page.len()
+    page.at
 }

@@ -315,7 +315,7 @@ fn judged_lines(page: &mut Page, s: &[u8], e: StandardRecord, end: Verdict)
 pub fn listing(out: &mut [u8; 4096], s: &[u8], t: StandardReading) -> usize
     ensures { (take result out.new ≡ lines.listing_of s.now t) × (drop result out.new ≡ drop result out.old) }
 {
-    let mut page = Page::new(out);
+    let mut page = Page { out, at: 0 };
     judged_lines(&mut page, s, t.edid, t.end);
-    page.len()
+    page.at
 }

@@ -4,5 +4,5 @@ use Rattle.page.specs.Page.{◌▷◌}
 use Rattle.page.specs.Words.{hex_of2, each}
 use Rattle.page.proofs.Page.hex_run.Given as goal
 
-abbrev pub invariant-loop-b : goal.invariant-loop-b
-invariant-loop-b l = l.self ≡ l.initial.self ▷ each hex_of2 (take l.b-index l.s)
+abbrev pub invariant-loop-x : goal.invariant-loop-x
+invariant-loop-x l = l.self ≡ l.initial.self ▷ each hex_of2 (take l.x-index l.s)
