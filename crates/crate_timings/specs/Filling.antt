@@ -3,13 +3,13 @@ use Rattle.std.specs.Prelude.{ℕ, zero, suc, ◌+◌, ◌-◌, ◌<◌, ◌≤�
 use Rattle.std.proofs.Math.Path.{sym, ap}
 use Rattle.std.proofs.Common.{◌∙◌}
 use Rattle.fixed.specs.Fixed.{push, pushed, pushed_fixed}
-use Rattle.steps.specs.Steps.{Steps, done, ◌>>=◌, map}
+use Rattle.steps.specs.Steps.{done, ◌>>=◌, map}
 use Rattle.steps.specs.Laws.{zero_left, then_then, then_same}
 use Rattle.steps.specs.Laws as Turns
 use Rattle.crate_record.specs.Filler.{blank_standard}
 use Rattle.crate_record.specs.Lists.{StandardTimings, standard_timings}
 use Rattle.crate_record.specs.declared.StandardTiming.{StandardTiming}
-use Rattle.shared_record.specs.Established.{established_timings}
+use Rattle.shared_record.specs.Established.{established_timings, flags_on}
 use Rattle.steps.specs.Leaves.{byte, word}
 use Rattle.crate_timings.specs.Established.{flags_of, established}
 use Rattle.crate_timings.specs.Pairs.{pair, listed, pairs, with_pair, fill_pairs}
@@ -45,6 +45,6 @@ no_more n i l h = ap (λ (k : ℕ). fill_pairs k l) (zero_left n i h)
 -- ---- flags
 
 pub established_filled : map established_timings established
-    ≡ (word >>= (λ ft. byte >>= (λ last. done (established_timings (flags_of ft last)))))
-unfolding established word byte
+    ≡ (word >>= (λ ft. byte >>= (λ last. done (established_timings (flags_on ft last)))))
+unfolding established flags_of word byte
 established_filled = refl

@@ -6,38 +6,19 @@ ghost use Rattle.steps.specs.Steps.{map};
 ghost use Rattle.steps.specs.Took.{Took, with_value};
 ghost use Rattle.shared_record.specs.Established.{established_timings};
 ghost use Rattle.crate_record.specs.Lists.{standard_timings};
-ghost use Rattle.crate_timings.specs.Established.{flags_of, established};
+ghost use Rattle.crate_timings.specs.Established.{established};
 ghost use Rattle.crate_timings.specs.Pairs.{standard_timing_of, pair_of, pair, fill_pairs};
 
 use crate_record::{StandardTiming, StandardTimings};
 use shared_record::EstablishedTimings;
 use steps::{Cursor, Refusal};
 
-// Each digit of ft that is on lists its number. The last flag stands in a byte of its own, and comes behind.
-fn established_of(ft: u16, last: u8) -> EstablishedTimings
-    ensures { result ≡ established_timings (flags_of ft last) }
-{
-    let mut items = [0u8; 17];
-    let mut len = 0;
-    for k in 0..16u8 {
-        if bits::is_set16(ft, k) {
-            items[len] = k;
-            len += 1;
-        }
-    }
-    if bits::is_set(last, 7) {
-        items[len] = 16;
-        len += 1;
-    }
-    EstablishedTimings { items, len }
-}
-
 pub fn take_established(c: &mut Cursor) -> Result<EstablishedTimings, Refusal>
     ensures { Took (map established_timings established) c.old result c.new }
 {
     let ft = c.word()?;
     let last = c.byte()?;
-    Ok(established_of(ft, last))
+    Ok(shared_record::established_of(ft, last))
 }
 
 fn standard_timing_of(low: u8, high: u8) -> StandardTiming
