@@ -6,10 +6,10 @@ use Rattle.standard_slot_lines.specs.Lines.{timing_fields}
 use Rattle.steps.specs.declared.Span.{Span}
 use Rattle.standard_record.specs.declared.DetailedTiming.{DetailedTiming}
 use Rattle.standard_record.specs.Verdict.{Verdict}
-use Rattle.cta_record.specs.declared.VideoDescriptors.{VideoDescriptors}
+use Rattle.cta_record.specs.Lists.{VideoDescriptors}
 use Rattle.cta_record.specs.declared.DataBlock.{DataBlock}
-use Rattle.cta_record.specs.declared.DataBlocks.{DataBlocks}
-use Rattle.cta_record.specs.declared.CtaTimings.{CtaTimings}
+use Rattle.cta_record.specs.Lists.{DataBlocks}
+use Rattle.cta_record.specs.Lists.{CtaTimings}
 use Rattle.cta_record.specs.declared.Cta.{Cta}
 use Rattle.cta_reading.specs.Cta.{cta_of}
 

@@ -1,8 +1,8 @@
 -- What the contract of `read_timings` requires: the data blocks are accepted, and the lists that it is handed are what they say.
 use Rattle.std.specs.Prelude.{ℕ, ◌≡◌, List, length, Ok}
 use Rattle.cta_record.specs.Seen.{holding}
-use Rattle.cta_record.specs.declared.VideoDescriptors.{VideoDescriptors}
-use Rattle.cta_record.specs.declared.DataBlocks.{DataBlocks}
+use Rattle.cta_record.specs.Lists.{VideoDescriptors}
+use Rattle.cta_record.specs.Lists.{DataBlocks}
 use Rattle.cta_reading.specs.Along.{first}
 use Rattle.cta_reading.specs.Cta.{blocks_in, judge_block, before_blocks, plain}
 

@@ -4,15 +4,12 @@
 ghost use Rattle.std.specs.Prelude.{◌≡◌};
 ghost use Rattle.cta_record.specs.Filler.{blank};
 
+use fixed::Fixed;
 use standard_record::{BLANK_TIMING, DetailedTiming, Verdict};
 use steps::Span;
 
 // The descriptor bytes of all data blocks with tag 2, in their order.
-#[derive(Drop)]
-pub struct VideoDescriptors {
-    pub items: [u8; 119],
-    pub len: usize,
-}
+pub type VideoDescriptors = Fixed<u8, 119>;
 
 // One with another tag: the run of its bytes stands behind the header.
 #[derive(Clone, Copy)]
@@ -21,17 +18,9 @@ pub struct DataBlock {
     pub run: Span,
 }
 
-#[derive(Clone, Copy)]
-pub struct DataBlocks {
-    pub items: [DataBlock; 123],
-    pub len: usize,
-}
+pub type DataBlocks = Fixed<DataBlock, 123>;
 
-#[derive(Drop)]
-pub struct CtaTimings {
-    pub items: [DetailedTiming; 6],
-    pub len: usize,
-}
+pub type CtaTimings = Fixed<DetailedTiming, 6>;
 
 // `offset` is byte 2, where the timings begin, or 0; `support` is byte 3.
 #[derive(Drop)]

@@ -4,7 +4,7 @@ use mathlib.Core.Path.{◌≡◌, ap, ◌∙◌}
 use mathlib.Core.List.{List, ◌++◌}
 use lib.ListN.{drop, get_or}
 use Rattle.standard_record.specs.declared.HeldTiming.{HeldTiming}
-use Rattle.standard_record.specs.declared.DetailedTimings.{DetailedTimings}
+use Rattle.standard_record.specs.Lists.{DetailedTimings}
 use Rattle.picking.specs.Best.{Best, Chooses, listed}
 use Rattle.picking.specs.Score.{choice}
 use Rattle.picking.specs.Promises.{computed}

@@ -1,6 +1,6 @@
 -- What C is answered of the timing to show, and the lent numbers after it.
 use Rattle.std.specs.Prelude.{ℕ, cond, List, ◌++◌, ltb, length, drop, Ok, Err}
-use Rattle.standard_record.specs.declared.DetailedTimings.{DetailedTimings}
+use Rattle.standard_record.specs.Lists.{DetailedTimings}
 use Rattle.standard_record.specs.Verdict.{Verdict}
 use Rattle.standard_record.specs.declared.StandardReading.{StandardReading}
 use Rattle.picking.specs.Best.{listed}

@@ -6,7 +6,7 @@ use Rattle.steps.specs.declared.Span.{Span}
 use Rattle.standard_record.specs.declared.Descriptor.{Descriptor}
 use Rattle.standard_record.specs.declared.Descriptor.TheVariants.{Serial, Text, Range, Name, Undefined, MakerDefined}
 use Rattle.standard_record.specs.declared.Held.{Held}
-use Rattle.standard_record.specs.declared.Descriptors.{Descriptors}
+use Rattle.standard_record.specs.Lists.{Descriptors}
 use Rattle.standard_record.specs.declared.StandardRecord.{StandardRecord}
 use Rattle.standard_record.specs.Verdict.{Verdict}
 use Rattle.standard_record.specs.declared.StandardReading.{StandardReading}

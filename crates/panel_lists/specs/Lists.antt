@@ -8,11 +8,11 @@ use Rattle.text_kinds.specs.Kinds.{number_of}
 use Rattle.shared_record.specs.Established.{established_timings}
 use Rattle.shared_record.specs.Established.{EstablishedTimings}
 use Rattle.standard_record.specs.Lists.{white_points, standard_timings, detailed_timings, descriptors}
-use Rattle.standard_record.specs.declared.WhitePoints.{WhitePoints}
-use Rattle.standard_record.specs.declared.StandardTimings.{StandardTimings}
-use Rattle.standard_record.specs.declared.DetailedTimings.{DetailedTimings}
+use Rattle.standard_record.specs.Lists.{WhitePoints}
+use Rattle.standard_record.specs.Lists.{StandardTimings}
+use Rattle.standard_record.specs.Lists.{DetailedTimings}
 use Rattle.standard_record.specs.declared.Held.{Held}
-use Rattle.standard_record.specs.declared.Descriptors.{Descriptors}
+use Rattle.standard_record.specs.Lists.{Descriptors}
 use Rattle.panel_entries.specs.Entries.{point_of, pair_of, held_timing_of, kept_in, held_of}
 
 -- of the lines that count those from a place on and before another

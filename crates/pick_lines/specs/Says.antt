@@ -6,7 +6,7 @@ use Rattle.steps.specs.declared.Refusal.{Refusal}
 use Rattle.shared_lines.specs.Lines.{refuse_line}
 use Rattle.standard_slot_lines.specs.Lines.{detailed_line}
 use Rattle.standard_record.specs.Verdict.{Verdict}
-use Rattle.standard_record.specs.declared.DetailedTimings.{DetailedTimings}
+use Rattle.standard_record.specs.Lists.{DetailedTimings}
 use Rattle.standard_reading.specs.Block.{standard_of}
 use Rattle.picking.specs.Best.{Best, NoneQualifies, Chooses, listed}
 use Rattle.picking.specs.Score.{choice, chooses}

@@ -8,7 +8,7 @@ use Rattle.page.specs.Short.{field_length, field8_length}
 use Rattle.page.specs.Meaning.{whole, only}
 use Rattle.shared_lines.specs.Short.{refuse_length}
 use Rattle.standard_slot_lines.specs.Short.{detailed_length}
-use Rattle.standard_record.specs.declared.DetailedTimings.{DetailedTimings}
+use Rattle.standard_record.specs.Lists.{DetailedTimings}
 use Rattle.standard_record.specs.Verdict.{Verdict}
 use Rattle.standard_reading.specs.Block.{standard_of}
 use Rattle.picking.specs.Best.{listed}

@@ -1,7 +1,7 @@
 -- Which timing to show, in the customer's words, over any list of timings.
 use Rattle.std.specs.Prelude.{ℕ, zero, suc, ◌*◌, ◌<◌, ◌≤◌, min, ◌≡◌, Bool, true, false, List, [], ◌∷◌, map, take}
 use Rattle.standard_record.specs.declared.DetailedTiming.{DetailedTiming}
-use Rattle.standard_record.specs.declared.DetailedTimings.{DetailedTimings}
+use Rattle.standard_record.specs.Lists.{DetailedTimings}
 use Rattle.picking.specs.declared.Limits.{Limits}
 use Rattle.picking.specs.declared.Choice.{Choice}
 use Rattle.picking.specs.declared.Choice.TheVariants.{Index, Refused}

@@ -4,7 +4,7 @@ use Rattle.std.proofs.Common.{arith}
 use Rattle.timing.specs.Axis.{pixels, lines}
 use Rattle.standard_record.specs.Filler.{blank_timing}
 use Rattle.standard_record.specs.declared.DetailedTiming.{DetailedTiming}
-use Rattle.standard_record.specs.declared.DetailedTimings.{DetailedTimings}
+use Rattle.standard_record.specs.Lists.{DetailedTimings}
 use Rattle.picking.specs.Best.{Best, NoneQualifies, Accepts, listed}
 use Rattle.picking.specs.Score.{chooses}
 use Rattle.picking.specs.Promises.{one_best, past_the_list}

@@ -4,7 +4,7 @@ use Rattle.std.proofs.Common.{arith, length-take}
 use Rattle.std.proofs.lemmas.List.{length-map}
 use Rattle.standard_record.specs.Filler.{blank_detailed}
 use Rattle.standard_record.specs.declared.HeldTiming.{HeldTiming}
-use Rattle.standard_record.specs.declared.DetailedTimings.{DetailedTimings}
+use Rattle.standard_record.specs.Lists.{DetailedTimings}
 use Rattle.picking.specs.Best.{At, Best, listed}
 use Rattle.picking.specs.Promises.{inside}
 use Rattle.picking.specs.declared.Limits.{Limits}

@@ -19,9 +19,9 @@ use Rattle.standard_record.specs.declared.Features.{Features}
 use Rattle.standard_record.specs.declared.Display.{Display}
 use Rattle.standard_record.specs.declared.Chromaticities.{Chromaticities}
 use Rattle.standard_record.specs.declared.HeldPoint.{HeldPoint}
-use Rattle.standard_record.specs.declared.WhitePoints.{WhitePoints}
+use Rattle.standard_record.specs.Lists.{WhitePoints}
 use Rattle.standard_record.specs.declared.HeldPair.{HeldPair}
-use Rattle.standard_record.specs.declared.StandardTimings.{StandardTimings}
+use Rattle.standard_record.specs.Lists.{StandardTimings}
 use Rattle.standard_record.specs.declared.StandardRecord.{StandardRecord}
 use Rattle.standard_record.specs.Verdict.{Verdict}
 use Rattle.standard_record.specs.declared.StandardReading.{StandardReading}

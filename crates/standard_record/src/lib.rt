@@ -5,6 +5,7 @@
 ghost use Rattle.std.specs.Prelude.{◌≡◌};
 ghost use Rattle.standard_record.specs.Filler.{blank};
 
+use fixed::Fixed;
 use shared_record::{EstablishedTimings, SupportedSync, Version};
 use steps::{Refusal, Span};
 use timing::{Across, Border, Down, Lines, Pixels, Size, StereoType, SyncPolarity};
@@ -122,11 +123,7 @@ pub struct WhitePoint {
     pub gamma: Option<u16>,
 }
 
-#[derive(Clone, Copy)]
-pub struct WhitePoints {
-    pub items: [HeldPoint; 6],
-    pub len: usize,
-}
+pub type WhitePoints = Fixed<HeldPoint, 6>;
 
 #[derive(Clone, Copy)]
 pub struct Color {
@@ -148,11 +145,7 @@ pub struct StandardTiming {
     pub rate: u16,
 }
 
-#[derive(Clone, Copy)]
-pub struct StandardTimings {
-    pub items: [HeldPair; 26],
-    pub len: usize,
-}
+pub type StandardTimings = Fixed<HeldPair, 26>;
 
 // Which lines carry an analog composite sync.
 #[derive(Clone, Copy)]
@@ -194,11 +187,7 @@ pub struct DetailedTiming {
     pub sync: Sync,
 }
 
-#[derive(Clone, Copy)]
-pub struct DetailedTimings {
-    pub items: [HeldTiming; 4],
-    pub len: usize,
-}
+pub type DetailedTimings = Fixed<HeldTiming, 4>;
 
 #[derive(Clone, Copy)]
 pub struct Timings {
@@ -253,11 +242,7 @@ pub enum Descriptor {
     },
 }
 
-#[derive(Clone, Copy)]
-pub struct Descriptors {
-    pub items: [Held; 3],
-    pub len: usize,
-}
+pub type Descriptors = Fixed<Held, 3>;
 
 // ---- the entries of the four lists: each beside the number of the slot that holds it, 1 to 4; 0 for the eight pairs at offset 38
 

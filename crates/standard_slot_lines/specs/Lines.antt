@@ -8,14 +8,14 @@ use Rattle.standard_record.specs.declared.Sync.{Sync}
 use Rattle.standard_record.specs.declared.Sync.TheVariants.{AnalogComposite, BipolarAnalogComposite, DigitalComposite, DigitalSeparate}
 use Rattle.standard_record.specs.declared.DetailedTiming.{DetailedTiming}
 use Rattle.standard_record.specs.declared.HeldTiming.{HeldTiming}
-use Rattle.standard_record.specs.declared.DetailedTimings.{DetailedTimings}
+use Rattle.standard_record.specs.Lists.{DetailedTimings}
 use Rattle.standard_record.specs.declared.Limits.{Limits}
 use Rattle.standard_record.specs.declared.SecondaryTiming.{SecondaryTiming}
 use Rattle.standard_record.specs.declared.SecondaryTiming.TheVariants as Secondary
 use Rattle.standard_record.specs.declared.Descriptor.{Descriptor}
 use Rattle.standard_record.specs.declared.Descriptor.TheVariants.{Serial, Text, Range, Name, Undefined, MakerDefined}
 use Rattle.standard_record.specs.declared.Held.{Held}
-use Rattle.standard_record.specs.declared.Descriptors.{Descriptors}
+use Rattle.standard_record.specs.Lists.{Descriptors}
 
 -- ---- detailed timings
 

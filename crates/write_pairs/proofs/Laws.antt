@@ -10,7 +10,7 @@ use lib.Seq.{drop-cons, drop-drop, take-nil, get_or-take, get_or-drop}
 use Rattle.standard_record.specs.Held.{held_pair}
 use Rattle.standard_record.specs.declared.HeldPair.{HeldPair}
 use Rattle.standard_record.specs.declared.StandardTiming.{StandardTiming}
-use Rattle.standard_record.specs.declared.StandardTimings.{StandardTimings}
+use Rattle.standard_record.specs.Lists.{StandardTimings}
 use Rattle.standard_parts.specs.declared.Structure.{Structure}
 use Rattle.write_leaf.specs.Digits.{both_hold}
 use Rattle.write_parts.specs.Pair.{pair_low, pair_high, WritesPair}

@@ -2,7 +2,7 @@
 use Rattle.std.specs.Prelude.{ℕ, zero, suc, ◌<◌, ◌≡◌, Bool, true, cond, List, [], ◌∷◌, eqb, length, take, drop, Some}
 use Rattle.standard_record.specs.Held.{held_pair}
 use Rattle.standard_record.specs.declared.StandardTiming.{StandardTiming}
-use Rattle.standard_record.specs.declared.StandardTimings.{StandardTimings}
+use Rattle.standard_record.specs.Lists.{StandardTimings}
 use Rattle.standard_parts.specs.Timings.{pair_of}
 use Rattle.standard_parts.specs.declared.Structure.{Structure}
 use Rattle.write_parts.specs.Pair.{pair_low, pair_high}
