@@ -104,7 +104,13 @@ fn pairs_turn(six: PairsBytes, at: Place) -> Turn
 }
 
 // White points, a descriptor or nothing.
-fn other_turn(structure: Structure, ps: Points, d: Option<Descriptor>, lent: &[u8], at: Place) -> Turn
+fn other_turn(
+    structure: Structure,
+    ps: Points,
+    d: Option<Descriptor>,
+    lent: &[u8],
+    at: Place,
+) -> Turn
     requires { Small at }
     ensures { Turned structure lent.now at result.after result.slot.fits result.slot.bytes (first [] [] (of_points ps) (of_descriptor d)) }
 {
@@ -147,11 +153,7 @@ fn lay(block: &mut [u8], at: usize, part: &[u8])
     requires { at + length part.now ≤ length block.old }
     ensures { block.new ≡ paste block.old at part.now (length part.now) }
 {
-    let mut k = 0;
-    while k < part.len() {
-        block[at + k] = part[k];
-        k += 1;
-    }
+    block[at..at + part.len()].copy_from_slice(part);
 }
 
 // The same of a slot, whose length its type tells.
@@ -166,23 +168,15 @@ fn lay_slot(block: &mut [u8], at: usize, part: &[u8; 18])
 fn ended(k: usize, len: usize, size: usize) -> bool
     ensures { result ≡ nat_le (min len size) k }
 {
-    if len <= k { true } else { size <= k }
+    len.min(size) <= k
 }
 
 // Whether the lists are used up.
 fn used_up(r: StandardRecord, at: Place) -> bool
     ensures { UsedUp (ahead (seen r) at) result }
 {
-    write_leaf::both(
-        write_leaf::both(
-            ended(at.timed, r.timings.detailed.len, 4),
-            ended(at.listed, r.timings.standard.len, 26),
-        ),
-        write_leaf::both(
-            ended(at.pointed, r.color.points.len, 6),
-            ended(at.entered, r.descriptors.len, 3),
-        ),
-    )
+    (ended(at.timed, r.timings.detailed.len, 4) & ended(at.listed, r.timings.standard.len, 26))
+        & (ended(at.pointed, r.color.points.len, 6) & ended(at.entered, r.descriptors.len, 3))
 }
 
 // Whether the first slot holds a timing.
@@ -190,10 +184,7 @@ fn timing_first(r: StandardRecord) -> bool
     ensures { result ≡ nat_lt 0 (length (taken (seen r) 0).timings) }
 {
     let items = r.timings.detailed.items;
-    match write_next::next_timing(items[0], 0, r.timings.detailed.len, 1) {
-        None => false,
-        Some(_) => true,
-    }
+    write_next::next_timing(items[0], 0, r.timings.detailed.len, 1).is_some()
 }
 
 // The four slots, behind the pairs that are used up; whether every entry fits and none is left. The lists are local arrays: in the loop no call takes
@@ -219,8 +210,7 @@ fn fill_slots(
         entered: 0,
     };
     let mut fits = true;
-    let mut i: u16 = 0;
-    while i < 4 {
+    for i in 0..4u16 {
         let n = i + 1;
         let timed = at.timed;
         let listed = at.listed;
@@ -257,12 +247,10 @@ fn fill_slots(
         let slot = t.slot;
         let bytes = slot.bytes;
         lay_slot(block, 54 + 18 * i as usize, &bytes);
-        fits = write_leaf::both(fits, slot.fits);
-        let after = t.after;
-        at = after;
-        i += 1;
+        fits &= slot.fits;
+        at = t.after;
     }
-    write_leaf::both(fits, used_up(r, at))
+    fits & used_up(r, at)
 }
 
 // The front and the eight pairs; whether they fit, and how many pairs are used up.
@@ -283,7 +271,7 @@ fn fill_front(block: &mut [u8], structure: Structure, r: StandardRecord) -> Begu
     let pairs = eight.bytes;
     lay(block, 38, &pairs);
     Begun {
-        fits: write_leaf::both(front.fits, eight.fits),
+        fits: front.fits & eight.fits,
         listed: eight.many,
     }
 }
@@ -297,8 +285,8 @@ fn fill(block: &mut [u8], r: StandardRecord, lent: &[u8]) -> bool
     let begun = fill_front(block, structure, r);
     let slots = fill_slots(block, structure, r, lent, begun.listed);
     block[126] = r.extensions;
-    block[127] = std::num::wrapping_sub_u8(0, sums::byte_sum(&block[0..127]));
-    write_leaf::both(begun.fits, write_leaf::both(timing_first(r), slots))
+    block[127] = 0u8.wrapping_sub(sums::byte_sum(&block[0..127]));
+    begun.fits & (timing_first(r) & slots)
 }
 
 // The block of r, whose spans point into the bytes lent: 0, or the number of a refusal, which leaves the output as it was.

@@ -1,5 +1,5 @@
 -- `standard_writing::fill` meets its contract: the front, the slots, the last two bytes. Assumes nothing.
-use Rattle.std.proofs.Common.{◌≡◌, ◌&&◌, [], ◌∷◌, ◌++◌, length, set, sym, ap, ◌∙◌, arith, length-set, rules}
+use Rattle.std.proofs.Common.{◌+◌, ◌-◌, ◌%◌, ◌&&◌, [], ◌∷◌, ◌++◌, sym, ap, ◌∙◌, arith}
 use Rattle.fixed.specs.Gather.{gather}
 use Rattle.sums.specs.Joined.{checksum}
 use Rattle.standard_record.specs.Seen.{seen}
@@ -11,33 +11,6 @@ use Rattle.write_block.specs.Holds.{slot_from}
 use Rattle.standard_writing.proofs.Laws.{end_laid, nested, block_fits, given_fits}
 use Rattle.standard_writing.proofs.fill.Goals as goal
 
-pub fill_front-begun-requires : goal.fill_front-begun-requires
-fill_front-begun-requires c = (c.requires, c.structure_of-structure.ensures)
-
-pub fill_slots-slots-requires : goal.fill_slots-slots-requires
-fill_slots-slots-requires c = (search rules, search rules, c.structure_of-structure.ensures)
-
-pub slice_bounds-byte_sum-end : goal.slice_bounds-byte_sum-end
-slice_bounds-byte_sum-end c =
-    let size : length (set c.fill_slots-slots.new.block 126 c.args.r.extensions) ≡ 128 =
-    length-set c.fill_slots-slots.new.block 126 c.args.r.extensions ∙ c.fill_slots-slots.ensures.1
-    in
-    omega (arith, size)
-
-pub bounds-block-127 : goal.bounds-block-127
-bounds-block-127 c =
-    let size : length (set c.fill_slots-slots.new.block 126 c.args.r.extensions) ≡ 128 =
-    length-set c.fill_slots-slots.new.block 126 c.args.r.extensions ∙ c.fill_slots-slots.ensures.1
-    in
-    omega (arith, size)
-
-pub shape_of-block : goal.shape_of-block
-shape_of-block c =
-    let size : length (set c.fill_slots-slots.new.block 126 c.args.r.extensions) ≡ 128 =
-    length-set c.fill_slots-slots.new.block 126 c.args.r.extensions ∙ c.fill_slots-slots.ensures.1
-    in
-    length-set (set c.fill_slots-slots.new.block 126 c.args.r.extensions) 127 c.wrapping_sub_u8.result ∙ size ∙ sym c.requires
-
 pub returns : goal.returns
 unfolding seen
 returns c =
@@ -48,11 +21,11 @@ returns c =
     let head = front_bytes (front_of x) in
     let eights = pairs_bytes 8 (eight x) in
     let is = c.fill_slots-slots.ensures.2 ∙ ap (λ s. s ++ slots) c.fill_front-begun.ensures.3 in
-    let sum = rw c.byte_sum.ensures at c.wrapping_sub_u8.ensures.value in
-    let fits = c.both-2.ensures ∙ ap (λ t. c.fill_front-begun.result.fits && t) (c.both.ensures ∙ ap (λ t. t && c.fill_slots-slots.result) c.timing_first.ensures) in
+    let sum = c.byte_sum.ensures in
+    let fits = ap (λ t. c.fill_front-begun.result.fits && (t && c.fill_slots-slots.result)) c.timing_first.ensures in
     record {
       is =
-          end_laid c.fill_slots-slots.new.block ((head ++ eights) ++ slots) r.extensions c.wrapping_sub_u8.result c.fill_slots-slots.ensures.1 is (omega arith) sum
+          end_laid c.fill_slots-slots.new.block ((head ++ eights) ++ slots) r.extensions ((0 + (256 - c.byte_sum.result)) % 256) c.fill_slots-slots.ensures.1 is (omega arith) (omega (arith, sum))
           ∙ ap (λ s. s ++ checksum s ∷ []) (nested head eights slots (r.extensions ∷ []));
       sound = λ h. block_fits r lent _ _ c.fill_front-begun.ensures.0 c.fill_slots-slots.ensures.0 (sym fits ∙ h);
       complete = λ b g. fits ∙ given_fits r lent _ _ c.fill_front-begun.ensures.0 c.fill_slots-slots.ensures.0 b g;

@@ -55,7 +55,7 @@ returns c =
     let pairs_size : length c.pairs_bytes-eight.result.bytes ≡ 16 = ap length pairs.made ∙ pairs_length 8 (eight (seen c.args.r)) in
     let head = front_bytes (front_of (seen c.args.r)) in
     let e = part_laid c.lay.new.block c.pairs_bytes-eight.result.bytes head 38 16 front_laid.0 pairs_size (omega arith) (front_laid.1 ∙ c.front_bytes-front.ensures.made) in (
-      rw c.both.ensures (front_fits_lem c.args.r _ _ _ _ _ c.front_bytes-front.ensures pairs),
+      (front_fits_lem c.args.r _ _ _ _ _ c.front_bytes-front.ensures pairs),
       pairs.count,
       rw c.lay-2.ensures e.0,
       rw c.lay-2.ensures (e.1 ∙ ap (λ s. head ++ s) pairs.made),

@@ -11,7 +11,7 @@ use Rattle.standard_writing.specs.Places.{ahead, Turned}
 use Rattle.standard_writing.specs.declared.Turn.{Turn}
 use Rattle.standard_writing.proofs.Laws.{next_is, most_six, pairs_turned, some_pair, no_pair, points_are, small, none_yet, one_slot, slot_laid, none_fit, one_fits, all_fit}
 use Rattle.standard_writing.proofs.fill_slots.Goals as goal
-use Rattle.standard_writing.proofs.fill_slots.Goals.{in-Is, in-None+then-pair_ahead, in-None+else-pair_ahead}
+use Rattle.standard_writing.proofs.fill_slots.Goals.{in-Some, in-None+then-pair_ahead, in-None+else-pair_ahead}
 
 pub loop-i-init : goal.loop-i-init
 loop-i-init c =
@@ -40,7 +40,7 @@ shape_of-block c = c.loop-i.invariant.1 ∙ sym c.requires.0
 pub returns : goal.returns
 returns c =
     let four : c.loop-i.i ≡ 4 = omega arith in (
-      rw c.both.ensures (all_fit c.args.r _ _ _ _ (rw four at c.loop-i.invariant.2) (rw four at c.loop-i.invariant.3) c.used_up.ensures),
+      (all_fit c.args.r _ _ _ _ (rw four at c.loop-i.invariant.2) (rw four at c.loop-i.invariant.3) c.used_up.ensures),
       c.loop-i.invariant.1,
       rw four at c.loop-i.invariant.4,
     )
@@ -69,7 +69,7 @@ loop-i-preserved c =
     let none = no_pair pairs.items pairs.len at.listed number whole_pairs in
     let turn_is : Meant c.match-next_timing.t =
     elim c.match-next_timing.branch [
-      | in-Is w ↦ subst Meant (sym w.t-is) (subst (Turned _ lent at _ _ _) (sym (next_is number left (timing_is ∙ ap of_timing w.in-Is.is) refl refl refl)) (w.timing_turn-t.ensures _ lent))
+      | in-Some w ↦ subst Meant (sym w.t-is) (subst (Turned _ lent at _ _ _) (sym (next_is number left (timing_is ∙ ap of_timing w.in-Some.is) refl refl refl)) (w.timing_turn-t.ensures _ lent))
       | in-None+then-pair_ahead w ↦
           let six = rw (most_six number (omega arith), c.requires.2) at w.pairs_bytes.ensures in
           subst Meant (sym w.t-is) (subst (Turned _ lent at _ _ _) (sym (next_is number left (timing_is ∙ ap of_timing w.in-None.is) refl refl refl))
@@ -90,6 +90,6 @@ loop-i-preserved c =
       omega arith,
       rw c.lay_slot.ensures.1 e.0,
       one_slot x c.loop-i.i at t.after c.loop-i.invariant.2 turn_is.1,
-      rw c.both-fits.ensures (one_fits r lent c.loop-i.i _ _ _ (omega arith) c.loop-i.invariant.3 w),
+      (one_fits r lent c.loop-i.i _ _ _ (omega arith) c.loop-i.invariant.3 w),
       rw c.lay_slot.ensures.1 e.1,
     )

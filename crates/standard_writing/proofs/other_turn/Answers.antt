@@ -14,11 +14,11 @@ returns-then-two-gt0 c =
     (turned _ _ _ _ _ _ (some_points c.args.ps (omega arith) (of_descriptor c.args.d)) (slot_points _ _ _ _ _ (c.points_bytes.ensures _))
     (record { timed = omega arith; listed = omega arith; pointed = omega arith; entered = omega arith }))
 
-pub returns-in-Is : goal.returns-in-Is
-returns-in-Is c =
+pub returns-in-Some : goal.returns-in-Some
+returns-in-Some c =
     let none : of_points c.args.ps ≡ [] = none_left (of_points c.args.ps) (omega (arith, c.many-two.ensures)) in
-    rw c.turn_of-in-Is.ensures
-    (turned _ _ _ _ _ _ (λ i. first [] [] (none i) (of_descriptor (c.in-Is.is i))) (slot_descriptor _ _ _ _ _ c.descriptor_bytes.ensures)
+    rw c.turn_of-in-Some.ensures
+    (turned _ _ _ _ _ _ (λ i. first [] [] (none i) (of_descriptor (c.in-Some.is i))) (slot_descriptor _ _ _ _ _ c.descriptor_bytes.ensures)
     (record { timed = omega arith; listed = omega arith; pointed = omega arith; entered = omega arith }))
 
 pub returns-in-None : goal.returns-in-None

@@ -10,11 +10,8 @@ returns c =
     let w : length c.args.r.color.points.items ≡ 6 = omega arith in
     let d : length c.args.r.descriptors.items ≡ 3 = omega arith in
     rw (
-      c.both-3.ensures,
-      c.both-2.ensures,
       c.ended-4.ensures,
       c.ended-3.ensures,
-      c.both.ensures,
       c.ended-2.ensures,
       c.ended.ensures,
     ) (all_ended c.args.r c.args.at t p w d)
