@@ -1,36 +1,44 @@
 // Packed fields: the code has & | << >>, the contracts have / % * + alone. And the bytes of a slice by their places.
 #![tactic(auto)]
 
-ghost use Rattle.std.specs.Prelude.{◌≡◌, ◌+◌, ◌*◌, ◌%◌, ◌^◌, ◌<◌};
+ghost use Rattle.std.specs.Prelude.{◌≡◌, ◌+◌, ◌*◌, ◌%◌, ◌^◌, ◌<◌, ◌≤◌};
 ghost use Rattle.bits.specs.Fields.{digits, bit};
 ghost use Rattle.bits.specs.Bytes.{◌!◌, part};
 
-// The `width` binary digits of b from digit `shift` up: digits(b, 6, 2) are the top two. Both count modulo 8.
+// The `width` binary digits of v from digit `shift` up: the one place where digits are cut out.
+fn cut(v: u16, shift: u8, width: u8) -> u16
+    requires { (shift < 16) × (width < 16) }
+    ensures { (result ≡ digits v shift width) × (result ≤ v) }
+{
+    (v >> shift) & ((1 << width) - 1)
+}
+
+// digits(b, 6, 2) are the top two of a byte. Both numbers count modulo 8.
 pub fn digits(b: u8, shift: u8, width: u8) -> u8
     ensures { result ≡ digits b (shift % 8) (width % 8) }
 {
-    (b >> (shift % 8)) & ((1 << (width % 8)) - 1)
+    cut(b as u16, shift % 8, width % 8) as u8
 }
 
 // The same of a 16-bit value, modulo 16: digits16(v, 10, 5) is the maker's first letter.
 pub fn digits16(v: u16, shift: u8, width: u8) -> u16
     ensures { result ≡ digits v (shift % 16) (width % 16) }
 {
-    (v >> (shift % 16)) & ((1 << (width % 16)) - 1)
+    cut(v, shift % 16, width % 16)
 }
 
 // Whether digit k of a byte is 1; k counts modulo 8.
 pub fn is_set(b: u8, k: u8) -> bool
     ensures { result ≡ bit b (k % 8) }
 {
-    b & (1 << (k % 8)) > 0
+    cut(b as u16, k % 8, 1) == 1
 }
 
 // Whether digit k of a 16-bit value is 1; k counts modulo 16.
 pub fn is_set16(v: u16, k: u8) -> bool
     ensures { result ≡ bit v (k % 16) }
 {
-    (v >> (k % 16)) & 1 > 0
+    cut(v, k % 16, 1) == 1
 }
 
 // Two bytes, the low one first.
