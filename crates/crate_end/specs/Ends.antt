@@ -1,10 +1,10 @@
 -- The crate reading with no value kept: nothing but its header and its slots decides how it ends. And how far it comes, piece by piece.
-use Rattle.std.specs.Prelude.{ℕ, zero, suc, List}
+use Rattle.std.specs.Prelude.{ℕ, zero, suc, List, Option}
 use Rattle.steps.specs.Steps.{Steps, done, ◌>>=◌, ◌>>◌, Outcome, got, refused, run}
 use Rattle.crate_head.specs.Head.{header}
 use Rattle.crate_text.specs.Text.{skip}
 use Rattle.crate_detailed.specs.Detailed.{detailed}
-use Rattle.crate_detailed.specs.declared.MaybeTiming.{MaybeTiming}
+use Rattle.crate_record.specs.declared.DetailedTiming.{DetailedTiming}
 use Rattle.crate_slots.specs.Slots.{Said, said_first, said_later}
 
 -- the outcome without its value
@@ -17,7 +17,7 @@ abbrev pub bare : {A : Type 0} → Steps A → Steps Unit
 bare p = p >> done tt
 
 -- what the slot i says
-abbrev pub said_at : ℕ → MaybeTiming → Steps Said
+abbrev pub said_at : ℕ → Option DetailedTiming → Steps Said
 said_at zero t = said_first t
 said_at (suc i) t = said_later t
 

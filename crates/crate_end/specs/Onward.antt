@@ -1,11 +1,13 @@
 -- A piece that is whole stays whole when bytes are added: so the reading may go on from where it came to.
-use Rattle.std.specs.Prelude.{ℕ, zero, suc, ◌+◌, ◌-◌, ◌<◌, ◌≤◌, ◌≡◌, refl, List, ◌++◌, length, get_or}
+use Rattle.std.specs.Prelude.{ℕ, zero, suc, ◌+◌, ◌-◌, ◌<◌, ◌≤◌, ◌≡◌, refl, List, ◌++◌, length, get_or, Result}
 use Rattle.std.proofs.Common.{sym, ◌∙◌, ap, add-one, arith, length-append}
 use Rattle.std.proofs.Math.ListN.{get_or-append}
 use Rattle.steps.specs.Steps.{Steps, done, refuse, next, here, Outcome, got, refused, run}
 use Rattle.steps.specs.Laws.{run_next, more, zero_left}
-use Rattle.steps.specs.Leaves.{ended}
-use Rattle.steps.specs.declared.End.{End}
+use Rattle.steps.specs.Leaves.{outcome}
+use Rattle.steps.specs.Took.{Took}
+use Rattle.steps.specs.declared.Cursor.{Cursor}
+use Rattle.steps.specs.declared.Refusal.{Refusal}
 use Rattle.steps.specs.Answers.{taken, by_next}
 use Rattle.crate_text.specs.Text.{skip}
 use Rattle.crate_end.specs.Ends.{piece, Went, onward, went}
@@ -40,18 +42,19 @@ resumed (suc n) i s t at h = by (run (piece i) s at) refl (λ k. resumed n (suc 
 
 -- ---- a turn of the loop
 
--- a piece more to be read, whose reader gave e, and e is e', as a match shows; and none
-pub went_more : (i : ℕ) (s : List ℕ) (at : ℕ) {e e' : End} → i < 5 → ended {A = Unit} tt e ≡ run (piece i) s at → e ≡ e'
-    → went (5 - i) i s at ≡ onward (ended {A = Unit} tt e') (λ k. went (5 - (i + 1)) (i + 1) s k) (record { piece = i; at = at; end = ended {A = Unit} tt e' })
+-- a piece more to be read, whose reader gave r; and none
+pub turn : (i : ℕ) {c c' : Cursor} {r : Result Unit Refusal} → i < 5 → Took (piece i) c r c'
+    → went (5 - i) i c.bytes.now c.at ≡ onward (outcome r c'.at) (λ k. went (5 - (i + 1)) (i + 1) c'.bytes.now k) (record { piece = i; at = c.at; end = outcome r c'.at })
 unfolding went
-went_more i s at h q m =
-    ap (λ (n : ℕ). went n i s at) (more 5 i h)
-    ∙ ap (λ (j : ℕ). onward (run (piece i) s at) (λ k. went (5 - (i + 1)) j s k) (record { piece = i; at = at; end = run (piece i) s at })) (sym (add-one i))
-    ∙ ap (λ o. onward o (λ k. went (5 - (i + 1)) (i + 1) s k) (record { piece = i; at = at; end = o })) (sym q ∙ ap (ended {A = Unit} tt) m)
+turn i {c} {c'} {r} h t =
+    ap (λ (n : ℕ). went n i c.bytes.now c.at) (more 5 i h)
+    ∙ ap (λ (j : ℕ). onward (run (piece i) c.bytes.now c.at) (λ k. went (5 - (i + 1)) j c.bytes.now k) (record { piece = i; at = c.at; end = run (piece i) c.bytes.now c.at })) (sym (add-one i))
+    ∙ ap (λ o. onward o (λ k. went (5 - (i + 1)) (i + 1) c.bytes.now k) (record { piece = i; at = c.at; end = o })) (sym t.answer)
+    ∙ ap (λ b. onward (outcome r c'.at) (λ k. went (5 - (i + 1)) (i + 1) b.now k) (record { piece = i; at = c.at; end = outcome r c'.at })) (sym t.lent)
 
-pub went_none : (i : ℕ) (s : List ℕ) (at : ℕ) → 5 ≤ i → went (5 - i) i s at ≡ record { piece = i; at = at; end = run (skip 1) s at }
+pub no_turn : (i : ℕ) (s : List ℕ) (at : ℕ) → 5 ≤ i → went (5 - i) i s at ≡ record { piece = i; at = at; end = run (skip 1) s at }
 unfolding went
-went_none i s at h = ap (λ (n : ℕ). went n i s at) (zero_left 5 i h)
+no_turn i s at h = ap (λ (n : ℕ). went n i s at) (zero_left 5 i h)
 
 -- ---- how large its numbers are
 

@@ -1,5 +1,5 @@
 -- With its values dropped the crate reading is the program `ends`, and where that ends is where going on from the start comes to.
-use Rattle.std.specs.Prelude.{ℕ, zero, suc, ◌≡◌, refl, List, [], ◌∷◌}
+use Rattle.std.specs.Prelude.{ℕ, zero, suc, ◌≡◌, refl, List, [], ◌∷◌, Option, Some, None}
 use Rattle.std.proofs.Common.{sym, ◌∙◌, ap}
 use Rattle.steps.specs.Steps.{Steps, done, ◌>>=◌, ◌>>◌, Outcome, got, refused, run, and_then}
 use Rattle.steps.specs.Laws.{run_bind, then_then, then_same}
@@ -13,8 +13,6 @@ use Rattle.crate_text.specs.Text.{skip}
 use Rattle.crate_timings.specs.Established.{established}
 use Rattle.crate_timings.specs.Pairs.{pair, pairs}
 use Rattle.crate_detailed.specs.Detailed.{detailed}
-use Rattle.crate_detailed.specs.declared.MaybeTiming.{MaybeTiming}
-use Rattle.crate_detailed.specs.declared.MaybeTiming.TheVariants as Maybe
 use Rattle.crate_descriptors.specs.Descriptors.{closing, descriptor}
 use Rattle.crate_descriptors.specs.declared.Slot.TheVariants.{Six}
 use Rattle.crate_slots.specs.Slots.{Said, standards, said_by, said_first, said_later, later, slots}
@@ -29,15 +27,15 @@ run_bare {A} p s at = run_bind p (λ _. done tt) s at ∙ on (run p s at)
     on (refused k n) = refl
 
 -- a slot with a timing, and one without
-pub some_bare : (i : ℕ) (t : DetailedTiming) → bare (said_at i (Maybe.Some t)) ≡ done tt
+pub some_bare : (i : ℕ) (t : DetailedTiming) → bare (said_at i (Some t)) ≡ done tt
 some_bare zero t = refl
 some_bare (suc i) t = refl
 
-pub later_said : (i : ℕ) (t : MaybeTiming) → (i ≡ 0 → ⊥) → said_at i t ≡ said_later t
+pub later_said : (i : ℕ) (t : Option DetailedTiming) → (i ≡ 0 → ⊥) → said_at i t ≡ said_later t
 later_said zero t h = absurd (h refl)
 later_said (suc i) t h = refl
 
-pub none_bare : bare (said_later Maybe.None) ≡ descriptor >>= (λ x. bare (said_by x))
+pub none_bare : bare (said_later None) ≡ descriptor >>= (λ x. bare (said_by x))
 none_bare = then_then descriptor said_by (λ _. done tt)
 
 -- the pairs of an fa slot are twelve bytes
@@ -48,7 +46,7 @@ six_bare =
     ∙ then_same (pairs 6) (λ xs. then_then (closing 0) (λ _. done (standards xs)) (λ _. done tt))
 
 -- a slot, and what follows it whatever the slot said
-turn : (f : MaybeTiming → Steps Said) (k : Said → Steps (List Said)) (g : List Said → Steps Unit) (q : Steps Unit)
+turn : (f : Option DetailedTiming → Steps Said) (k : Said → Steps (List Said)) (g : List Said → Steps Unit) (q : Steps Unit)
     → ((x : Said) → k x >>= g ≡ q) → (detailed >>= (λ t. f t >>= k)) >>= g ≡ (detailed >>= (λ t. bare (f t))) >> q
 turn f k g q h =
     then_then detailed (λ t. f t >>= k) g

@@ -1,139 +1,109 @@
 // How the crate reading ends, without its record: header and slots decide it, so all else is passed over. It can go on from any piece.
 #![tactic(auto)]
 
-ghost use Rattle.std.specs.Prelude.{suc, ◌-◌, ◌≡◌};
+ghost use Rattle.std.specs.Prelude.{suc, ◌-◌, ◌≡◌, None};
 ghost use Rattle.steps.specs.Steps.{run};
 ghost use Rattle.steps.specs.Leaves.{ended};
+ghost use Rattle.steps.specs.Took.{Took};
 ghost use Rattle.crate_text.specs.Text.{skip};
 ghost use Rattle.crate_slots.specs.Slots.{said_by, said_later};
 ghost use Rattle.crate_reading.specs.Reading.{answer};
 ghost use Rattle.crate_end.specs.Ends.{end_of, bare, piece, went};
 ghost use Rattle.crate_end.specs.Answers.{of_came};
 
-use crate_descriptors::{Slot, SlotRead};
-use crate_detailed::{DetailedRead, MaybeTiming};
-use crate_head::HeaderRead;
-use crate_text::PassRead;
-use steps::{Cursor, End, Refusal};
+use crate_descriptors::Slot;
+use steps::{Cursor, Refusal};
 
 // How far a reading came: the piece that is not whole, 5 where all are; where that begins; and how it ended.
 #[derive(Clone, Copy)]
 pub struct Came {
     pub piece: usize,
     pub at: usize,
-    pub end: End,
+    pub end: Result<usize, Refusal>,
 }
 
 // Twelve bytes of pairs, and the closing.
-fn six_end(c: Cursor, s: &[u8]) -> End
-    ensures { ended tt result ≡ run (bare (said_by Slot.Six)) s.now c.at }
+fn pass_six(c: &mut Cursor) -> Result<(), Refusal>
+    ensures { Took (bare (said_by Slot.Six)) c.old result c.new }
 {
-    match crate_text::take_skip(c, s, 12) {
-        PassRead::Refused(f) => End::Refused(f),
-        PassRead::Got(next) => match crate_descriptors::take_closing(next, s, 0) {
-            PassRead::Refused(f) => End::Refused(f),
-            PassRead::Got(last) => End::At(last),
-        },
+    crate_text::take_skip(c, 12)?;
+    crate_descriptors::take_closing(c, 0)?;
+    Ok(())
+}
+
+fn pass_descriptor(c: &mut Cursor) -> Result<(), Refusal>
+    ensures { Took (bare (said_later None)) c.old result c.new }
+{
+    match crate_descriptors::take_descriptor(c)? {
+        Slot::Nothing | Slot::Described(_) | Slot::White(_) => Ok(()),
+        Slot::Six => pass_six(c),
     }
 }
 
-fn descriptor_end(c: Cursor, s: &[u8]) -> End
-    ensures { ended tt result ≡ run (bare (said_later MaybeTiming.None)) s.now c.at }
+fn pass_slot(i: usize, c: &mut Cursor) -> Result<(), Refusal>
+    ensures { Took (piece (suc i)) c.old result c.new }
 {
-    match crate_descriptors::take_descriptor(c, s) {
-        SlotRead::Refused(f) => End::Refused(f),
-        SlotRead::Got(x, next) => match x {
-            Slot::Nothing => End::At(next),
-            Slot::Described(_) => End::At(next),
-            Slot::White(_) => End::At(next),
-            Slot::Six => six_end(next, s),
-        },
+    if let Some(_) = crate_detailed::take_detailed(c)? {
+        return Ok(());
     }
-}
-
-fn slot_end(i: usize, c: Cursor, s: &[u8]) -> End
-    ensures { ended tt result ≡ run (piece (suc i)) s.now c.at }
-{
-    match crate_detailed::take_detailed(c, s) {
-        DetailedRead::Refused(f) => End::Refused(f),
-        DetailedRead::Got(t, next) => match t {
-            MaybeTiming::Some(_) => End::At(next),
-            MaybeTiming::None => {
-                if i == 0 {
-                    End::Refused(Refusal {
-                        number: 3,
-                        at: next.at,
-                    })
-                } else {
-                    descriptor_end(next, s)
-                }
-            }
-        },
-    }
-}
-
-fn front_end(c: Cursor, s: &[u8]) -> End
-    ensures { ended tt result ≡ run (piece 0) s.now c.at }
-{
-    match crate_head::take_header(c, s) {
-        HeaderRead::Refused(f) => End::Refused(f),
-        HeaderRead::Got(next) => match crate_text::take_skip(next, s, 46) {
-            PassRead::Refused(f) => End::Refused(f),
-            PassRead::Got(last) => End::At(last),
-        },
-    }
-}
-
-fn piece_end(i: usize, c: Cursor, s: &[u8]) -> End
-    ensures { ended tt result ≡ run (piece i) s.now c.at }
-{
     if i == 0 {
-        front_end(c, s)
+        return Err(Refusal {
+            number: 3,
+            at: c.at,
+        });
+    }
+    pass_descriptor(c)
+}
+
+fn pass_front(c: &mut Cursor) -> Result<(), Refusal>
+    ensures { Took (piece 0) c.old result c.new }
+{
+    crate_head::take_header(c)?;
+    crate_text::take_skip(c, 46)
+}
+
+fn pass_piece(i: usize, c: &mut Cursor) -> Result<(), Refusal>
+    ensures { Took (piece i) c.old result c.new }
+{
+    if i > 0 {
+        pass_slot(i - 1, c)
     } else {
-        slot_end(i - 1, c, s)
+        pass_front(c)
     }
 }
 
-// The extension count.
-fn last_end(c: Cursor, s: &[u8]) -> End
-    ensures { ended tt result ≡ run (skip 1) s.now c.at }
+// The extension count, and the place behind it.
+fn last_end(c: &mut Cursor) -> Result<usize, Refusal>
+    ensures { ended tt result ≡ run (skip 1) c.old.bytes.now c.old.at }
 {
-    match crate_text::take_skip(c, s, 1) {
-        PassRead::Refused(f) => End::Refused(f),
-        PassRead::Got(next) => End::At(next),
-    }
+    crate_text::take_skip(c, 1)?;
+    Ok(c.at)
 }
 
 // From the piece `piece`, which begins at `at`.
 pub fn go_on(piece: usize, at: usize, s: &[u8]) -> Came
     ensures { of_came result ≡ went (5 - piece) piece s.now at }
 {
-    let mut i = piece;
-    let mut c = Cursor { at };
-    while i < 5 {
-        match piece_end(i, c, s) {
-            End::Refused(f) => {
-                return Came {
-                    piece: i,
-                    at: c.at,
-                    end: End::Refused(f),
-                };
-            }
-            End::At(next) => c = next,
+    let mut c = Cursor { bytes: s, at };
+    for i in piece..5 {
+        let at = c.at;
+        if let Err(f) = pass_piece(i, &mut c) {
+            return Came {
+                piece: i,
+                at,
+                end: Err(f),
+            };
         }
-        i += 1;
     }
     Came {
-        piece: i,
+        piece: piece.max(5),
         at: c.at,
-        end: last_end(c, s),
+        end: last_end(&mut c),
     }
 }
 
-pub fn end_of(s: &[u8]) -> End
+pub fn end_of(s: &[u8]) -> Result<usize, Refusal>
     ensures { ended tt result ≡ end_of (answer s.now) }
 {
-    let came = go_on(0, 0, s);
-    let end = came.end;
-    end
+    go_on(0, 0, s).end
 }
