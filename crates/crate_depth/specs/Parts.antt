@@ -1,5 +1,5 @@
 -- The room that each part of the crate reading wants, its values aside; k bytes are left after it.
-use Rattle.std.specs.Prelude.{ℕ, zero, suc, ◌+◌, ◌-◌, ◌||◌, ◌≡◌, refl, eqb, Option}
+use Rattle.std.specs.Prelude.{ℕ, zero, suc, ◌+◌, ◌-◌, ◌||◌, ◌≡◌, refl, eqb, Option, Some, None}
 use Rattle.std.proofs.Common.{sym, subst, le_refl, arith}
 use Rattle.steps.specs.Steps.{Steps, done}
 use Rattle.steps.specs.Leaves.{byte, word, long}
@@ -12,8 +12,7 @@ use Rattle.crate_record.specs.declared.WhitePoint.{WhitePoint}
 use Rattle.crate_head.specs.Head.{header}
 use Rattle.crate_text.specs.Text.{scan, padding, skip, span, text}
 use Rattle.crate_detailed.specs.Detailed.{fitted, axes, timed, detailed}
-use Rattle.crate_detailed.specs.declared.MaybeTiming.{MaybeTiming}
-use Rattle.crate_detailed.specs.declared.MaybeTiming.TheVariants as Maybe
+use Rattle.crate_record.specs.declared.DetailedTiming.{DetailedTiming}
 use Rattle.crate_descriptors.specs.Descriptors.{spaces, closing, point, ended, second, points, white, gtf, none, other, secondary, range, string, raw, by_tag, tagged, descriptor}
 use Rattle.crate_descriptors.specs.Sizes.{left}
 use Rattle.crate_descriptors.specs.declared.Points.{Points}
@@ -75,18 +74,18 @@ room_text k =
 
 room_fitted : (h : Option Across) (v : Option Down) (k : ℕ) → Room (λ _. k) k (fitted h v)
 unfolding fitted
-room_fitted Option.None v k = tt
-room_fitted (Option.Some h) Option.None k = tt
-room_fitted (Option.Some h) (Option.Some v) k = le_refl k
+room_fitted None v k = tt
+room_fitted (Some h) None k = tt
+room_fitted (Some h) (Some v) k = le_refl k
 
 room_axes : (ha k : ℕ) → Room (λ _. k) (9 then k) (axes ha)
 unfolding axes byte
 room_axes ha k = λ hb hh va vb vh ho hw vs hv. room_fitted (across_of ha hb hh ho hw hv) (down_of va vb vh vs hv) k
 
 -- 15 bytes of a timing's 18 are left where there is none
-abbrev spare : ℕ → MaybeTiming → ℕ
-spare k Maybe.None = 15 then k
-spare k (Maybe.Some t) = k
+abbrev spare : ℕ → Option DetailedTiming → ℕ
+spare k None = 15 then k
+spare k (Some t) = k
 
 room_timed : (clock ha k : ℕ) → Room (spare k) (15 then k) (timed clock ha)
 unfolding timed byte
@@ -96,7 +95,7 @@ room_detailed : (k : ℕ) → Room (spare k) (18 then k) detailed
 unfolding detailed byte
 room_detailed k =
     room_then word _ (λ _. 16 then k) _ _ (room_word (16 then k))
-    (λ clock ha. room_cond (eqb clock 0 || eqb ha 0) (done Maybe.None) (timed clock ha) _ _ (le_refl (15 then k)) (room_timed clock ha k))
+    (λ clock ha. room_cond (eqb clock 0 || eqb ha 0) (done None) (timed clock ha) _ _ (le_refl (15 then k)) (room_timed clock ha k))
 
 -- ---- a descriptor
 
@@ -183,14 +182,14 @@ room_by Six k =
     (λ _. room_then (closing 0) _ (λ _. k) _ _ (room_closing 0 k) (λ _. le_refl k)))
 
 -- 23 bytes: the 3 without a timing, and 20
-room_later : (t : MaybeTiming) (k : ℕ) → Room (λ _. k) (spare (5 then k) t) (bare (said_later t))
-room_later Maybe.None k =
+room_later : (t : Option DetailedTiming) (k : ℕ) → Room (λ _. k) (spare (5 then k) t) (bare (said_later t))
+room_later None k =
     subst (Room (λ _. k) (20 then k)) (sym none_bare) (room_then descriptor _ (λ x. left x then k) _ _ (room_descriptor k) (λ x. room_by x k))
-room_later (Maybe.Some t) k = omega arith
+room_later (Some t) k = omega arith
 
-room_first : (t : MaybeTiming) (k : ℕ) → Room (λ _. k) (spare k t) (bare (said_first t))
-room_first Maybe.None k = tt
-room_first (Maybe.Some t) k = le_refl k
+room_first : (t : Option DetailedTiming) (k : ℕ) → Room (λ _. k) (spare k t) (bare (said_first t))
+room_first None k = tt
+room_first (Some t) k = le_refl k
 
 room_piece_0 : (k : ℕ) → Room (λ _. k) (54 then k) (piece 0)
 unfolding piece
