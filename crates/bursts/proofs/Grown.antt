@@ -1,5 +1,5 @@
 -- What a reader tells after bursts: nothing where their bytes are out of data, and else their answer.
-use Rattle.std.specs.Prelude.{ℕ, ◌≡◌, refl, take}
+use Rattle.std.specs.Prelude.{ℕ, ◌≡◌, refl, take, None}
 use Rattle.std.proofs.Common.{◌∙◌, ap, arith}
 use mathlib.Core.List.{List, flatten}
 use Rattle.steps.specs.Steps.{Outcome, got, refused}
@@ -8,7 +8,6 @@ use Rattle.crate_reading.specs.Reading.{answer}
 use Rattle.crate_end.specs.Ends.{end_of, Went, went}
 use Rattle.crate_end.specs.Whole.{ends_so}
 use Rattle.crate_depth.specs.Whole.{first_142}
-use Rattle.bursts.specs.declared.Report.TheVariants.{Waiting}
 use Rattle.bursts.specs.Bursts.{amid, report_of, told, end_or, settled, after}
 use Rattle.bursts.specs.Grown.{settled_enough, so_far, stands_for}
 
@@ -21,7 +20,7 @@ report_end : {A : Type 0} (o : Outcome A) → report_of (end_of o) ≡ report_of
 report_end (got a n) = refl
 report_end (refused k n) = refl
 
-told_nothing : (w : Went) (n : ℕ) → w.end ≡ refused 1 n → told (settled w) ≡ Waiting
+told_nothing : (w : Went) (n : ℕ) → w.end ≡ refused 1 n → told (settled w) ≡ None
 told_nothing w n e = ap (λ (o : Outcome Unit). told (end_or o (amid w.piece w.at))) e
 
 told_end : {A : Type 0} (w : Went) (o : Outcome A) → w.end ≡ end_of o → Enough o → told (settled w) ≡ report_of o
@@ -34,7 +33,7 @@ so_far_end : (s : List ℕ) → (went 5 0 (take 142 s) 0).end ≡ end_of (answer
 so_far_end s = ends_so (take 142 s) ∙ ap end_of (first_142 s)
 
 -- nothing is told where the bytes are out of data, and else their answer is
-pub says_nothing : (bs : List (List ℕ)) (n : ℕ) → answer (flatten bs) ≡ refused 1 n → told (after bs).stage ≡ Waiting
+pub says_nothing : (bs : List (List ℕ)) (n : ℕ) → answer (flatten bs) ≡ refused 1 n → told (after bs).stage ≡ None
 unfolding so_far
 says_nothing bs n e =
     ap (λ a. told a.stage) (stands_for bs) ∙ told_nothing (went 5 0 (take 142 (flatten bs)) 0) n (so_far_end (flatten bs) ∙ ap end_of e)

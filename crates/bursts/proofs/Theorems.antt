@@ -1,5 +1,5 @@
 -- What holds of every list of bursts, since after them a reader stands for their bytes.
-use Rattle.std.specs.Prelude.{ℕ, ◌+◌, ◌≤◌, ◌<◌, ◌≡◌, refl, length}
+use Rattle.std.specs.Prelude.{ℕ, ◌+◌, ◌≤◌, ◌<◌, ◌≡◌, refl, length, Some, None, Err}
 use Rattle.std.proofs.Common.{sym, ◌∙◌, ap, subst, arith, length-append}
 use mathlib.Core.List.{List, [], ◌∷◌, ◌++◌, flatten, append_assoc}
 use Rattle.steps.specs.Steps.{Outcome, got, refused}
@@ -9,7 +9,6 @@ use Rattle.crate_record.specs.declared.EDID.{EDID}
 use Rattle.crate_reading.specs.Reading.{reading, answer}
 use Rattle.crate_depth.specs.Whole.{first_142}
 use Rattle.crate_depth.specs.Prefix.{stays, not_before, at_once}
-use Rattle.bursts.specs.declared.Report.TheVariants.{Waiting, Refused}
 use Rattle.bursts.specs.Bursts.{report_of, told, held, after}
 use Rattle.bursts.specs.Grown.{by_enough, so_far, stands_for}
 use Rattle.bursts.proofs.Grown.{says_nothing, says}
@@ -40,7 +39,7 @@ module _ (bs cs : List (List ℕ)) where
   whole P = subst P (flatten_append bs cs)
 
   -- while the last byte that the answer takes is to come, nothing is told
-  pub not_earlier : length (flatten bs) < taken (answer (flatten (bs ++ cs))) → told (after bs).stage ≡ Waiting
+  pub not_earlier : length (flatten bs) < taken (answer (flatten (bs ++ cs))) → told (after bs).stage ≡ None
   not_earlier h =
       says_nothing bs (length (flatten bs))
       (not_before reading (flatten bs) (flatten cs) (whole (λ l. length (flatten bs) < taken (answer l)) h))
@@ -55,25 +54,25 @@ module _ (bs cs : List (List ℕ)) where
       says bs (λ n q. e n (sym same ∙ q)) ∙ ap report_of same
 
   -- out of data is told at the end only: where the whole input is, no burst tells anything
-  pub no_report : (n : ℕ) → answer (flatten (bs ++ cs)) ≡ refused 1 n → told (after bs).stage ≡ Waiting
+  pub no_report : (n : ℕ) → answer (flatten (bs ++ cs)) ≡ refused 1 n → told (after bs).stage ≡ None
   no_report n o =
       by_enough (answer (flatten bs)) (says_nothing bs)
       (λ e. absurd (e n (sym (stays reading (flatten bs) (flatten cs) e) ∙ ap answer (sym (flatten_append bs cs)) ∙ o)))
 
 -- no burst tells 1
-pub never_1 : (bs : List (List ℕ)) (n : ℕ) → told (after bs).stage ≡ Refused (record { number = 1; at = n }) → ⊥
+pub never_1 : (bs : List (List ℕ)) (n : ℕ) → told (after bs).stage ≡ Some (Err (record { number = 1; at = n })) → ⊥
 never_1 bs n q =
     by_enough (answer (flatten bs)) (λ m o. let z : ◌≡◌ {A = ℕ} 0 1 = cc (says_nothing bs m o) in absurd (omega arith))
     (λ e. by (answer (flatten bs)) e (sym (says bs e) ∙ q))
   where
-    by : (o : Outcome EDID) → Enough o → report_of o ≡ Refused (record { number = 1; at = n }) → ⊥
+    by : (o : Outcome EDID) → Enough o → report_of o ≡ Some (Err (record { number = 1; at = n })) → ⊥
     by (got a m) e r = let z : ◌≡◌ {A = ℕ} 0 1 = cc in absurd (omega arith)
     by (refused k m) e r =
         let same : ◌≡◌ {A = Refusal} (record { number = k; at = m }) (record { number = 1; at = n }) = cc in
         e m (ap (λ (f : Refusal). refused f.number m) same)
 
 -- once something is told, no later burst alters it, nor the answer at the end
-pub final : (bs cs : List (List ℕ)) → (told (after bs).stage ≡ Waiting → ⊥)
+pub final : (bs cs : List (List ℕ)) → (told (after bs).stage ≡ None → ⊥)
     → (told (after (bs ++ cs)).stage ≡ told (after bs).stage) × (answer (flatten (bs ++ cs)) ≡ answer (flatten bs))
 final bs cs h =
     by_enough (answer (flatten bs)) (λ n q. absurd (h (says_nothing bs n q)))

@@ -1,10 +1,9 @@
 -- What the state of a reader of bursts stands for, and what a burst makes of it.
-use Rattle.std.specs.Prelude.{ℕ, ◌-◌, cond, eqb, ltb, get_or, take}
+use Rattle.std.specs.Prelude.{ℕ, ◌-◌, cond, eqb, ltb, get_or, take, Option, Some, None, Result, Ok, Err}
 use mathlib.Core.List.{List, [], ◌++◌, foldl}
 use Rattle.steps.specs.Steps.{Outcome, got, refused}
+use Rattle.steps.specs.declared.Refusal.{Refusal}
 use Rattle.crate_end.specs.Ends.{Went, went}
-use Rattle.bursts.specs.declared.Report.{Report}
-use Rattle.bursts.specs.declared.Report.TheVariants.{Waiting, At, Refused}
 
 -- how far a reading came: to a piece that is not whole, which begins at a place; or its end is known
 pub data Stage : Type 0 where
@@ -17,12 +16,15 @@ pub record Standing : Type 0 where
   pub stage : Stage
 
 -- what is told: nothing while the end is not known
+abbrev pub Report : Type 0
+Report = Option (Result ℕ Refusal)
+
 abbrev pub report_of : {A : Type 0} → Outcome A → Report
-report_of (got a n) = At (record { at = n })
-report_of (refused k n) = Refused (record { number = k; at = n })
+report_of (got a n) = Some (Ok n)
+report_of (refused k n) = Some (Err (record { number = k; at = n }))
 
 abbrev pub told : Stage → Report
-told (amid i at) = Waiting
+told (amid i at) = None
 told (known o) = report_of o
 
 -- ---- the 146 bytes of a state

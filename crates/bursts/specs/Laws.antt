@@ -2,7 +2,7 @@
 use Prim.Native.Nat.{ℕ, zero, suc, ◌+◌, ◌-◌, ◌≤◌, ◌<◌, min}
 use Rattle.std.specs.Prelude.{cond, ◌≡◌, eqb, ltb, drop, set}
 use Rattle.std.proofs.Math.Path.{sym, ap}
-use Rattle.std.proofs.Common.{◌∙◌, get_or-drop, eq-eqb, ne_eqb, lt-ltb, le-ltb}
+use Rattle.std.proofs.Common.{◌∙◌, le_refl, get_or-drop, eq-eqb, ne_eqb, lt-ltb, le-ltb}
 use mathlib.Core.List.{List, [], ◌∷◌, ◌++◌}
 use Rattle.std.proofs.Math.Nat.{zero-min, min-zero, suc-min-suc}
 use native.Mathlib.Omega.{arith}
@@ -31,6 +31,10 @@ behind l m n j h e =
     let at : n + (j - n) ≡ j = omega arith in
     ap (λ (k : ℕ). get_or l k 0) (sym at) ∙ sym (get_or-drop n l (j - n) 0) ∙ ap (λ (r : List ℕ). get_or r (j - n) 0) e ∙ get_or-drop n m (j - n) 0
     ∙ ap (λ (k : ℕ). get_or m k 0) at
+
+-- the first n elements of s are pasted, whether s is longer or not
+pub paste_first : (d : List ℕ) (at : ℕ) (s : List ℕ) (n : ℕ) → paste d at (take n s) n ≡ paste d at s n
+paste_first d at s n = ap (λ (l : List ℕ). take at d ++ l ++ drop (at + n) d) (take-take n n s (le_refl n))
 
 -- ---- a state s
 

@@ -1,12 +1,11 @@
 -- What holds of every list of bursts. `flatten` joins them; `after bs` is what a reader stands for that took the bursts bs. What follows from that, of the
 -- answer and of the report, is in proofs/Theorems.
-use Rattle.std.specs.Prelude.{ℕ, ◌-◌, ◌≤◌, ◌<◌, Bool, true, false, ◌≡◌, refl, leb, length, replicate}
+use Rattle.std.specs.Prelude.{ℕ, ◌-◌, ◌≤◌, ◌<◌, Bool, true, false, ◌≡◌, refl, leb, length, replicate, None}
 use Rattle.std.proofs.Common.{sym, ◌∙◌, ap, arith, leb-true, leb-false, length-append}
 use mathlib.Core.List.{List, [], ◌∷◌, ◌++◌, foldl-append, flatten}
 use Rattle.steps.specs.Answers.{taken, Enough, within}
 use Rattle.crate_reading.specs.Reading.{reading, answer}
 use Rattle.crate_depth.specs.Whole.{begun_reading}
-use Rattle.bursts.specs.declared.Report.TheVariants.{Waiting}
 use Rattle.bursts.specs.Bursts.{report_of, told, held, stage_of, stage, standing, fresh, grow, after}
 
 -- ---- the calls
@@ -32,7 +31,7 @@ pub record Brings (n : ℕ) (bs : List (List ℕ)) (b : List ℕ) : Type 0 where
 
 -- b reports, between bs and cs: no burst before it tells anything, and it and every later one tell the answer of all
 pub record Reported (bs : List (List ℕ)) (b : List ℕ) (cs : List (List ℕ)) : Type 0 where
-  pub before : (xs ys : List (List ℕ)) → bs ≡ xs ++ ys → told (after xs).stage ≡ Waiting
+  pub before : (xs ys : List (List ℕ)) → bs ≡ xs ++ ys → told (after xs).stage ≡ None
   pub then : (xs ys : List (List ℕ)) → cs ≡ xs ++ ys → told (after (bs ++ (b ∷ xs))).stage ≡ report_of (answer (flatten (bs ++ (b ∷ cs))))
 
 -- there is such a burst wherever the input is not out of data

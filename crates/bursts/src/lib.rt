@@ -13,29 +13,18 @@ ghost use Rattle.bursts.specs.Bursts.{told, held, stage_of, stage, standing, set
 
 use crate_end::Came;
 use crate_record::Reading;
-use steps::{Cursor, End, Refusal};
+use steps::Refusal;
 
 // What is told of the answer: nothing while bytes are wanted; or the place after the record; or the refusal.
-#[derive(Clone, Copy)]
-pub enum Report {
-    Waiting,
-    At(Cursor),
-    Refused(Refusal),
-}
+pub type Report = Option<Result<usize, Refusal>>;
 
 // ---- the bytes that came
-
-fn least(a: usize, b: usize) -> usize
-    ensures { result ≡ min a b }
-{
-    if a < b { a } else { b }
-}
 
 // How many bytes a state says that came: there are no more than 142.
 fn count(n: u8) -> usize
     ensures { result ≡ min n 142 }
 {
-    least(n as usize, 142)
+    usize::from(n).min(142)
 }
 
 // As much of the burst as there is room for, behind the bytes that came.
@@ -45,12 +34,8 @@ fn hold(state: &mut [u8], burst: &[u8])
         × (stage state.new ≡ stage state.old) }
 {
     let from = count(state[142]);
-    let many = least(burst.len(), 142 - from);
-    let mut i = 0;
-    while i < many {
-        state[from + i] = burst[i];
-        i += 1;
-    }
+    let many = burst.len().min(142 - from);
+    state[from..from + many].copy_from_slice(&burst[..many]);
     state[142] = (from + many) as u8;
 }
 
@@ -59,7 +44,7 @@ pub fn held(state: &[u8; 146]) -> &[u8]
     ensures { result.now ≡ held state.now }
 {
     let s: &[u8] = state;
-    &s[0..count(s[142])]
+    &s[..count(s[142])]
 }
 
 // ---- how far the reading came
@@ -68,13 +53,13 @@ fn report_of(sort: u8, place: u8, number: u8) -> Report
     ensures { result ≡ told (stage_of sort place number) }
 {
     if sort < 6 {
-        return Report::Waiting;
+        return None;
     }
-    let at = place as usize;
+    let at = usize::from(place);
     if sort == 6 {
-        return Report::At(Cursor { at });
+        return Some(Ok(at));
     }
-    Report::Refused(Refusal { number, at })
+    Some(Err(Refusal { number, at }))
 }
 
 // What was told so far.
@@ -98,10 +83,9 @@ fn note(state: &mut [u8], came: Came)
     requires { (length state.old ≡ 146) × Small 255 (of_came came) }
     ensures { (held state.new ≡ held state.old) × (stage state.new ≡ settled (of_came came)) }
 {
-    let end = came.end;
-    match end {
-        End::At(c) => put(state, 6, c.at as u8, 0),
-        End::Refused(f) => {
+    match came.end {
+        Ok(n) => put(state, 6, n as u8, 0),
+        Err(f) => {
             if f.number == 1 {
                 put(state, came.piece as u8, came.at as u8, 0);
             } else {
@@ -115,7 +99,7 @@ fn go_on(piece: u8, at: u8, s: &[u8]) -> Came
     requires { (piece < 6) × (length s.now ≤ 142) }
     ensures { (of_came result ≡ went (5 - piece) piece s.now at) × Small 255 (of_came result) }
 {
-    crate_end::go_on(piece as usize, at as usize, s)
+    crate_end::go_on(usize::from(piece), usize::from(at), s)
 }
 
 // ---- the calls
@@ -135,7 +119,7 @@ pub fn take(state: &mut [u8; 146], burst: &[u8]) -> Report
 }
 
 // The input ended: how the reading of all that came ends.
-pub fn end(state: &[u8; 146]) -> End
+pub fn end(state: &[u8; 146]) -> Result<usize, Refusal>
     ensures { ended tt result ≡ end_of (answer (held state.now)) }
 {
     crate_end::end_of(held(state))

@@ -8,4 +8,5 @@ use Rattle.bursts.proofs.go_on.Goals as goal
 pub returns : goal.returns
 returns c =
     let a = c.args in
-    (c.go_on.ensures, subst (Small 255) (sym c.go_on.ensures) (small (5 - a.piece) a.piece a.s.now a.at 255 (search rules) (search rules) (search rules)))
+    let ran = rw (c.from.ensures, c.from-2.ensures) at c.go_on.ensures in
+    (ran, subst (Small 255) (sym ran) (small (5 - a.piece) a.piece a.s.now a.at 255 (search rules) (search rules) (search rules)))
