@@ -28,8 +28,7 @@ fn count(n: u8) -> usize
 }
 
 // As much of the burst as there is room for, behind the bytes that came.
-fn hold(state: &mut [u8], burst: &[u8])
-    requires { length state.old ≡ 146 }
+fn hold(state: &mut [u8; 146], burst: &[u8])
     ensures { (held state.new ≡ take 142 (held state.old ++ burst.now))
         × (stage state.new ≡ stage state.old) }
 {
@@ -43,11 +42,10 @@ fn hold(state: &mut [u8], burst: &[u8])
 pub fn held(state: &[u8; 146]) -> &[u8]
     ensures { result.now ≡ held state.now }
 {
-    let s: &[u8] = state;
-    &s[..count(s[142])]
+    &state[..count(state[142])]
 }
 
-// ---- how far the reading came
+// ---- how far the reading came: in three bytes, by numbers, since C lends the state as bytes (`edid_burst`)
 
 fn report_of(sort: u8, place: u8, number: u8) -> Report
     ensures { result ≡ told (stage_of sort place number) }
@@ -69,8 +67,7 @@ pub fn reported(state: &[u8; 146]) -> Report
     report_of(state[143], state[144], state[145])
 }
 
-fn put(state: &mut [u8], sort: u8, place: u8, number: u8)
-    requires { length state.old ≡ 146 }
+fn put(state: &mut [u8; 146], sort: u8, place: u8, number: u8)
     ensures { (held state.new ≡ held state.old) × (stage state.new ≡ stage_of sort place number) }
 {
     state[143] = sort;
@@ -79,8 +76,8 @@ fn put(state: &mut [u8], sort: u8, place: u8, number: u8)
 }
 
 // Out of data is no end while more can come.
-fn note(state: &mut [u8], came: Came)
-    requires { (length state.old ≡ 146) × Small 255 (of_came came) }
+fn note(state: &mut [u8; 146], came: Came)
+    requires { Small 255 (of_came came) }
     ensures { (held state.new ≡ held state.old) × (stage state.new ≡ settled (of_came came)) }
 {
     match came.end {

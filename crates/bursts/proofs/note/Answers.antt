@@ -21,7 +21,7 @@ pub returns-then-f-eq1 : goal.returns-then-f-eq1
 returns-then-f-eq1 c =
     let put = c.put-then-f-eq1.ensures in
     let came = c.args.came in
-    let small = c.requires.1.piece in (
+    let small = c.requires.piece in (
       put.0,
       put.1 ∙ is_amid came.piece came.at 0 (omega arith)
           ∙ sym (picked (eqb c.in-Err.f.number 1) _ _ (eq-eqb _ _ c.if-f-eq1.true)) ∙ settles came.piece came.at c.in-Err.is,
