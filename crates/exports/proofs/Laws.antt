@@ -1,4 +1,5 @@
 -- For the proof of `show`: the answer is the chooser's.
+use Rattle.std.specs.Prelude.{Ok}
 use Prim.Native.Nat.{ℕ}
 use mathlib.Core.Path.{◌≡◌, ap, ◌∙◌}
 use mathlib.Core.List.{List, ◌++◌}
@@ -10,8 +11,7 @@ use Rattle.picking.specs.Score.{choice}
 use Rattle.picking.specs.Promises.{computed}
 use Rattle.picking.specs.Entry.{entry_read}
 use Rattle.picking.specs.declared.Limits.{Limits}
-use Rattle.picking.specs.declared.Choice.{Choice}
-use Rattle.picking.specs.declared.Choice.TheVariants.{Index}
+use Rattle.picking.specs.Choice.{Choice}
 use Rattle.timing_numbers.specs.Numbers.{numbers_of}
 use Rattle.exports.specs.Pick.{shown}
 
@@ -21,4 +21,4 @@ module _ (l : Limits) (d : DetailedTimings) (lent : List ℕ) where
 
   pub its_numbers : (i : ℕ) (z : HeldTiming) → Best l (listed d) i
       → (0, numbers_of (get_or d.items i z).timing ++ drop 14 lent) ≡ shown d lent (choice l (listed d))
-  its_numbers i z b = ap (λ h. (0, numbers_of h.timing ++ drop 14 lent)) (entry_read l d i b z) ∙ told (Index i) b
+  its_numbers i z b = ap (λ h. (0, numbers_of h.timing ++ drop 14 lent)) (entry_read l d i b z) ∙ told (Ok i) b

@@ -7,13 +7,13 @@ use Rattle.picking.specs.Best.{listed}
 use Rattle.picking.specs.Score.{choice}
 use Rattle.picking.specs.Entry.{entry}
 use Rattle.picking.specs.declared.Limits.{Limits}
-use Rattle.picking.specs.declared.Choice.{Choice}
+use Rattle.picking.specs.Choice.{Choice}
 use Rattle.timing_numbers.specs.Numbers.{numbers_of}
 
 -- of a choice: 0 and the timing's numbers, with what was lent behind them, or the refusal and what was lent
 abbrev pub shown : DetailedTimings → List ℕ → Choice → ℕ × List ℕ
-shown d lent (Choice.Index i) = (0, numbers_of (entry d i).timing ++ drop 14 lent)
-shown d lent (Choice.Refused n) = (n, lent)
+shown d lent (Ok i) = (0, numbers_of (entry d i).timing ++ drop 14 lent)
+shown d lent (Err n) = (n, lent)
 
 -- of a verdict: the reading's refusal comes first
 abbrev pub judged : Verdict → List ℕ → ℕ × List ℕ → ℕ × List ℕ

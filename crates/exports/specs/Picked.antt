@@ -10,7 +10,7 @@ use Rattle.picking.specs.Score.{choice, chooses}
 use Rattle.picking.specs.Promises.{computed}
 use Rattle.picking.specs.Entry.{its_timing}
 use Rattle.picking.specs.declared.Limits.{Limits}
-use Rattle.picking.specs.declared.Choice.{Choice}
+use Rattle.picking.specs.Choice.{Choice}
 use Rattle.timing_numbers.specs.Numbers.{numbers_of}
 use Rattle.exports.specs.Pick.{shown, judged, pick_of}
 
@@ -27,8 +27,8 @@ pub data Picked (l : Limits) (r : StandardReading) (lent : List ℕ) : ℕ × Li
 module _ (l : Limits) (r : StandardReading) (lent : List ℕ) where
   by_choice : 14 ≤ length lent → r.end ≡ Ok tt → (c : Choice) → Chooses l (timings_in r) c
       → Picked l r lent (shown r.edid.timings.detailed lent c)
-  by_choice h e (Choice.Index i) b = rw (its_timing l r.edid.timings.detailed i b) (best i b h e)
-  by_choice h e (Choice.Refused n) c = rw c.0 (none h e c.1)
+  by_choice h e (Ok i) b = rw (its_timing l r.edid.timings.detailed i b) (best i b h e)
+  by_choice h e (Err n) c = rw c.0 (none h e c.1)
 
   abbrev answer : Verdict → ℕ × List ℕ
   answer v = judged v lent (shown r.edid.timings.detailed lent (choice l (timings_in r)))
@@ -47,9 +47,9 @@ module _ (l : Limits) (r : StandardReading) (lent : List ℕ) where
   picked_by : (a : ℕ × List ℕ) → Picked l r lent a → pick_of l r lent ≡ a
   picked_by a (too_few h) = rw (lt-ltb (length lent) 14 h) refl
   picked_by a (unread f h e) = rw (le-ltb (length lent) 14 h, e) refl
-  picked_by a (none h e n) = rw (le-ltb (length lent) 14 h, e, ← computed l (timings_in r) (Choice.Refused 14) (refl, n)) refl
+  picked_by a (none h e n) = rw (le-ltb (length lent) 14 h, e, ← computed l (timings_in r) (Err 14) (refl, n)) refl
   picked_by a (best i b h e) =
-      rw (le-ltb (length lent) 14 h, e, ← computed l (timings_in r) (Choice.Index i) b, its_timing l r.edid.timings.detailed i b) refl
+      rw (le-ltb (length lent) 14 h, e, ← computed l (timings_in r) (Ok i) b, its_timing l r.edid.timings.detailed i b) refl
 
   pub picked_exactly : (a : ℕ × List ℕ) → (pick_of l r lent ≡ a) ↔ Picked l r lent a
   picked_exactly a = (λ e. subst (Picked l r lent) e picked, picked_by a)

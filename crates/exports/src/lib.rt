@@ -14,7 +14,7 @@ ghost use Rattle.exports.specs.Numbers.{number_of, number_told};
 ghost use Rattle.exports.specs.Pick.{shown, pick_of};
 
 use bursts::Report;
-use picking::{Choice, Limits};
+use picking::Limits;
 use standard_record::DetailedTimings;
 use steps::End;
 use timing::{Lines, Pixels};
@@ -96,8 +96,8 @@ fn show(limits: Limits, list: DetailedTimings, numbers: &mut [u32]) -> u32
     ensures { (result, numbers.new) ≡ shown list numbers.old (choice limits (listed list)) }
 {
     match picking::choose(limits, list) {
-        Choice::Refused(number) => number as u32,
-        Choice::Index(i) => {
+        Err(number) => number as u32,
+        Ok(i) => {
             let items = list.items;
             let h = items[i];
             let its = timing_numbers::numbers_of(h.timing);

@@ -1,15 +1,13 @@
 -- Every line is shorter than a page.
-use Rattle.std.specs.Prelude.{ℕ, ◌≤◌, ◌≡◌, List, [], ◌∷◌, length, take, drop}
+use Rattle.std.specs.Prelude.{ℕ, ◌≤◌, ◌≡◌, List, [], ◌∷◌, length, take, drop, None, Option, Some}
 use Rattle.std.proofs.Common.{arith, length-append, length-take, take_all}
-use Rattle.page.specs.declared.Page.{Page}
-use Rattle.page.specs.Page.{◌▷◌}
+use Rattle.steps.specs.declared.Span.{Span}
+use Rattle.page.specs.Page.{page, ◌▷◌}
 use Rattle.page.specs.Words.{text, hex_of2, flat, each}
 use Rattle.page.specs.Short.{field_length, byte_length, first_length}
 use Rattle.page.specs.Meaning.{whole, only}
 use Rattle.naming.specs.Name.{name_of, shown}
 use Rattle.naming.specs.Listed.{SoundName, sound_name}
-use Rattle.naming.specs.declared.Named.{Named}
-use Rattle.naming.specs.declared.Named.TheVariants.{Not, By}
 use Rattle.name_lines.specs.Lines.{run, name_line, shown_line, answer}
 
 run_length : (name : List ℕ) → length name ≤ 13 → length (run name) ≤ 27
@@ -28,10 +26,10 @@ line_length_lem whose start name h k =
 answer_length : (p q : List ℕ) → length (answer p q) ≤ 79
 answer_length p q = go (name_of p) (name_of q) (sound_name p) (sound_name q)
   where
-    go : (a b : Named) → SoundName p a → SoundName q b → length (shown_line (shown a b) p q) ≤ 79
-    go (By t) b h k = line_length_lem (text "panel") t.start _ (omega arith) (omega (arith, h.0.short, length-take t.len (drop t.start p)))
-    go Not (By t) h k = line_length_lem (text "reference") t.start _ (omega arith) (omega (arith, k.0.short, length-take t.len (drop t.start q)))
-    go Not Not h k = omega arith
+    go : (a b : Option Span) → SoundName p a → SoundName q b → length (shown_line (shown a b) p q) ≤ 79
+    go (Some t) b h k = line_length_lem (text "panel") t.start _ (omega arith) (omega (arith, h.0.short, length-take t.len (drop t.start p)))
+    go None (Some t) h k = line_length_lem (text "reference") t.start _ (omega arith) (omega (arith, k.0.short, length-take t.len (drop t.start q)))
+    go None None h k = omega arith
 
 pub printed : (a b : List ℕ) (p q : Page) → length p.out.now ≡ 4096 → p.at ≡ 0 → q ≡ p ▷ answer a b
     → (take q.at q.out.now ≡ answer a b) × (drop q.at q.out.now ≡ drop q.at p.out.now)

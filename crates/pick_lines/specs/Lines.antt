@@ -11,14 +11,14 @@ use Rattle.picking.specs.Best.{listed}
 use Rattle.picking.specs.Score.{choice}
 use Rattle.picking.specs.Entry.{entry}
 use Rattle.picking.specs.declared.Limits.{Limits}
-use Rattle.picking.specs.declared.Choice.{Choice}
+use Rattle.picking.specs.Choice.{Choice}
 use Rattle.pick_lines.specs.Asked.{asked_in}
 use Rattle.pick_lines.specs.declared.Asked.{Asked}
 
 -- the index, and the timing's line as in the standard listing; or the refusal
 unfoldable pub choice_lines : DetailedTimings → Choice → List ℕ
-choice_lines l (Choice.Index i) = flat (text "pick" ∷ field i ∷ newline ∷ detailed_line (entry l i) ∷ [])
-choice_lines l (Choice.Refused n) = flat (text "refuse" ∷ field8 n ∷ newline ∷ [])
+choice_lines l (Ok i) = flat (text "pick" ∷ field i ∷ newline ∷ detailed_line (entry l i) ∷ [])
+choice_lines l (Err n) = flat (text "refuse" ∷ field8 n ∷ newline ∷ [])
 
 abbrev pub judged_lines : Limits → DetailedTimings → Verdict → List ℕ
 judged_lines l ts (Ok tt) = choice_lines ts (choice l (listed ts))

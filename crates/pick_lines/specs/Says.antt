@@ -12,7 +12,7 @@ use Rattle.picking.specs.Best.{Best, NoneQualifies, Chooses, listed}
 use Rattle.picking.specs.Score.{choice, chooses}
 use Rattle.picking.specs.Entry.{entry, its_timing}
 use Rattle.picking.specs.declared.Limits.{Limits}
-use Rattle.picking.specs.declared.Choice.{Choice}
+use Rattle.picking.specs.Choice.{Choice}
 use Rattle.pick_lines.specs.Asked.{asked_in}
 use Rattle.pick_lines.specs.Lines.{bad_line, choice_lines, judged_lines, reading_lines, answer_to, answer}
 use Rattle.pick_lines.specs.declared.Asked.{Asked}
@@ -33,8 +33,8 @@ pub data Says (s : List ℕ) : List ℕ → Type 0 where
 module _ (l : Limits) (d : DetailedTimings) where
   by_choice : (c : Choice) → Chooses l (listed d) c → Prints l d (Ok tt) (choice_lines d c)
   unfolding choice_lines flat field8 decimal_in
-  by_choice (Choice.Index i) b = best i b refl (its_timing l d i b)
-  by_choice (Choice.Refused n) c = rw c.0 (none refl c.1)
+  by_choice (Ok i) b = best i b refl (its_timing l d i b)
+  by_choice (Err n) c = rw c.0 (none refl c.1)
 
   by_verdict : (v : Verdict) → Prints l d v (judged_lines l d v)
   by_verdict (Ok tt) = by_choice (choice l (listed d)) (chooses l (listed d))

@@ -15,15 +15,15 @@ use Rattle.picking.specs.Best.{listed}
 use Rattle.picking.specs.Score.{choice}
 use Rattle.picking.specs.Entry.{entry}
 use Rattle.picking.specs.declared.Limits.{Limits}
-use Rattle.picking.specs.declared.Choice.{Choice}
+use Rattle.picking.specs.Choice.{Choice}
 use Rattle.pick_lines.specs.Asked.{asked_in}
 use Rattle.pick_lines.specs.Lines.{choice_lines, judged_lines, reading_lines, answer_to, answer}
 use Rattle.pick_lines.specs.declared.Asked.{Asked}
 
 choice_length : (l : DetailedTimings) (c : Choice) → length (choice_lines l c) ≤ 201
 unfolding choice_lines flat
-choice_length l (Choice.Index i) = simp length-append (omega (arith, field_length i, detailed_length (entry l i)))
-choice_length l (Choice.Refused n) = simp length-append (omega (arith, field8_length n))
+choice_length l (Ok i) = simp length-append (omega (arith, field_length i, detailed_length (entry l i)))
+choice_length l (Err n) = simp length-append (omega (arith, field8_length n))
 
 judged_length : (l : Limits) (ts : DetailedTimings) (v : Verdict) → length (judged_lines l ts v) ≤ 201
 judged_length l ts (Ok tt) = choice_length ts (choice l (listed ts))

@@ -8,8 +8,7 @@ ghost use Rattle.picking.specs.Score.{choice};
 ghost use Rattle.pick_lines.specs.Asked.{is_digit, number_from, asked_in, Bounded, Inside};
 ghost use Rattle.pick_lines.specs.Lines as lines;
 
-use page::Page;
-use picking::{Choice, Limits};
+use picking::Limits;
 use standard_record::{DetailedTimings, StandardReading};
 use timing::{Lines, Pixels};
 
@@ -86,16 +85,18 @@ fn choice_lines(page: &mut Page, limits: Limits, list: DetailedTimings)
     ensures { page.new ≡ page.old ▷ lines.choice_lines list (choice limits (listed list)) }
 {
     match picking::choose(limits, list) {
-        Choice::Refused(number) => {
-            page.bytes(b"refuse");
-            page.field(number);
-            page.newline();
+        Err(number) => {
+            let mut n = page::bytes(out, 0, b"refuse");
+            n = page::field8(out, n, number);
+            page::newline(out, n)
         }
-        Choice::Index(i) => {
-            page.bytes(b"pick");
-            page.field(i);
-            page.newline();
-            standard_slot_lines::detailed_line(page, list.items[i]);
+        Ok(i) => {
+            let items = list.items;
+            let h = items[i];
+            let mut n = page::bytes(out, 0, b"pick");
+            n = page::field(out, n, i);
+            n = page::newline(out, n);
+            standard_slot_lines::detailed_line(out, n, h)
         }
     }
 }

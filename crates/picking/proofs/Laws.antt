@@ -1,4 +1,5 @@
 -- For the proof of `choose`: the greatest score from an index on, turn by turn. For that of `accepts`: an index beside the best.
+use Rattle.std.specs.Prelude.{Err, Ok}
 use Prim.Native.Nat.{ℕ, zero, suc, ◌+◌, ◌-◌, ◌<◌, ◌≤◌}
 use mathlib.Core.Path.{◌≡◌, refl, sym, ◌∙◌}
 use mathlib.Core.Bool.{Bool, true, false}
@@ -14,7 +15,6 @@ use Rattle.picking.specs.First.{greatest, place}
 use Rattle.picking.specs.Score.{score_of, chooses}
 use Rattle.picking.specs.Promises.{one_best}
 use Rattle.picking.specs.declared.Limits.{Limits}
-use Rattle.picking.specs.declared.Choice.TheVariants.{Index, Refused}
 
 -- of the elements from k on `most` is the greatest value, and `at` the index of the first that has it
 pub record FromOn {A : Type 0} (f : A → ℕ) (xs : List A) (k most at : ℕ) : Type 0 where
@@ -61,10 +61,10 @@ module _ {A B : Type 0} (f : B → ℕ) (g : A → B) (xs : List A) (n : ℕ) wh
 
 -- all were looked at
 module _ (l : Limits) (ts : List DetailedTiming) (most at : ℕ) (h : FromOn (score_of l) ts 0 most at) where
-  pub none_chosen : most ≡ 0 → Chooses l ts (Refused 14)
+  pub none_chosen : most ≡ 0 → Chooses l ts (Err 14)
   none_chosen e = rw (eq-eqb (greatest (score_of l) ts) 0 (sym h.greatest_is ∙ e)) at (chooses l ts)
 
-  pub one_chosen : (most ≡ 0 → ⊥) → Chooses l ts (Index at)
+  pub one_chosen : (most ≡ 0 → ⊥) → Chooses l ts (Ok at)
   one_chosen e =
       rw (h.place_is, zero-add) (rw (ne_eqb (greatest (score_of l) ts) 0 (λ z. e (h.greatest_is ∙ z))) at (chooses l ts))
 

@@ -1,10 +1,9 @@
 -- Which timing to show, in the customer's words, over any list of timings.
-use Rattle.std.specs.Prelude.{ℕ, zero, suc, ◌*◌, ◌<◌, ◌≤◌, min, ◌≡◌, Bool, true, false, List, [], ◌∷◌, map, take}
+use Rattle.std.specs.Prelude.{ℕ, zero, suc, ◌*◌, ◌<◌, ◌≤◌, min, ◌≡◌, Bool, true, false, List, [], ◌∷◌, map, take, Err, Ok}
 use Rattle.standard_record.specs.declared.DetailedTiming.{DetailedTiming}
 use Rattle.standard_record.specs.Lists.{DetailedTimings}
 use Rattle.picking.specs.declared.Limits.{Limits}
-use Rattle.picking.specs.declared.Choice.{Choice}
-use Rattle.picking.specs.declared.Choice.TheVariants.{Index, Refused}
+use Rattle.picking.specs.Choice.{Choice}
 
 -- the board can drive it: it keeps the three limits, is not interlaced, and has active pixels on both axes
 pub record Qualifies (l : Limits) (t : DetailedTiming) : Type 0 where
@@ -38,8 +37,8 @@ NoneQualifies l ts = (i : ℕ) (t : DetailedTiming) → At ts i t → Qualifies 
 
 -- what the chooser answers: the index to show, or 14 where no timing qualifies
 abbrev pub Chooses : Limits → List DetailedTiming → Choice → Type 0
-Chooses l ts (Index i) = Best l ts i
-Chooses l ts (Refused n) = (n ≡ 14) × NoneQualifies l ts
+Chooses l ts (Ok i) = Best l ts i
+Chooses l ts (Err n) = (n ≡ 14) × NoneQualifies l ts
 
 -- what the checker answers of an index: whether it is the one to show
 abbrev pub Accepts : Limits → List DetailedTiming → ℕ → Bool → Type 0

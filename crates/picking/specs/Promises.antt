@@ -1,12 +1,11 @@
 -- What holds of the index to show, whichever the limits and the timings.
-use Rattle.std.specs.Prelude.{ℕ, zero, suc, ◌≤◌, ◌≡◌, refl, Bool, true, false, List, [], ◌∷◌, ◌++◌, length}
+use Rattle.std.specs.Prelude.{ℕ, zero, suc, ◌≤◌, ◌≡◌, refl, Bool, true, false, List, [], ◌∷◌, ◌++◌, length, Err, Ok}
 use Rattle.std.proofs.Common.{sym, ap, ◌∙◌, arith}
 use Rattle.standard_record.specs.declared.DetailedTiming.{DetailedTiming}
 use Rattle.picking.specs.Best.{Qualifies, area, At, Best, NoneQualifies, Chooses, Accepts}
 use Rattle.picking.specs.Score.{choice, chooses}
 use Rattle.picking.specs.declared.Limits.{Limits}
-use Rattle.picking.specs.declared.Choice.{Choice}
-use Rattle.picking.specs.declared.Choice.TheVariants.{Index, Refused}
+use Rattle.picking.specs.Choice.{Choice}
 
 module _ (l : Limits) (ts : List DetailedTiming) where
   -- the checker says yes of at most one index
@@ -17,24 +16,24 @@ module _ (l : Limits) (ts : List DetailedTiming) where
       omega (arith, a.first j b.timing b.there b.qualifies same, b.first i a.timing a.there a.qualifies (sym same))
 
   -- and of the chooser's always
-  pub chosen_accepted : (i : ℕ) (r : Bool) → Chooses l ts (Index i) → Accepts l ts i r → r ≡ true
+  pub chosen_accepted : (i : ℕ) (r : Bool) → Chooses l ts (Ok i) → Accepts l ts i r → r ≡ true
   chosen_accepted i true c a = refl
   chosen_accepted i false c a = absurd (a c)
 
   -- the chooser has one answer
   pub one_choice : (c d : Choice) → Chooses l ts c → Chooses l ts d → c ≡ d
-  one_choice (Index i) (Index j) a b = ap Index (one_best a b)
-  one_choice (Index i) (Refused n) a b = absurd (b.1 i a.timing a.there a.qualifies)
-  one_choice (Refused n) (Index j) a b = absurd (a.1 j b.timing b.there b.qualifies)
-  one_choice (Refused n) (Refused m) a b = ap Refused (a.0 ∙ sym b.0)
+  one_choice (Ok i) (Ok j) a b = ap Ok (one_best a b)
+  one_choice (Ok i) (Err n) a b = absurd (b.1 i a.timing a.there a.qualifies)
+  one_choice (Err n) (Ok j) a b = absurd (a.1 j b.timing b.there b.qualifies)
+  one_choice (Err n) (Err m) a b = ap Err (a.0 ∙ sym b.0)
 
   -- which can be computed
   pub computed : (c : Choice) → Chooses l ts c → c ≡ choice l ts
   computed c h = one_choice c (choice l ts) h (chooses l ts)
 
   -- 14 exactly where no timing qualifies
-  pub refused_exactly : (c : Choice) → Chooses l ts c → (c ≡ Refused 14 → NoneQualifies l ts) × (NoneQualifies l ts → c ≡ Refused 14)
-  refused_exactly c h = (λ e. (rw e at h).1, λ none. one_choice c (Refused 14) h (refl, none))
+  pub refused_exactly : (c : Choice) → Chooses l ts c → (c ≡ Err 14 → NoneQualifies l ts) × (NoneQualifies l ts → c ≡ Err 14)
+  refused_exactly c h = (λ e. (rw e at h).1, λ none. one_choice c (Err 14) h (refl, none))
 
 -- what stands at an index stands within the list
 pub inside : {A : Type 0} (xs : List A) (i : ℕ) (x : A) → At xs i x → suc i ≤ length xs
@@ -56,8 +55,8 @@ moved (suc n) zero = zero
 moved (suc n) (suc i) = suc (moved n i)
 
 abbrev pub moved_pick : ℕ → Choice → Choice
-moved_pick n (Index i) = Index (moved n i)
-moved_pick n (Refused k) = Refused k
+moved_pick n (Ok i) = Ok (moved n i)
+moved_pick n (Err k) = Err k
 
 moved_up : (n i j : ℕ) → i ≤ j → moved n i ≤ moved n j
 moved_up zero i j h = omega arith
@@ -82,8 +81,8 @@ module _ {A : Type 0} (a : A) (ys : List A) where
 -- the same timing is picked, by `still-there`, wherever the other was put in
 pub added : (l : Limits) (xs ys : List DetailedTiming) (t : DetailedTiming) → (Qualifies l t → ⊥) → (c : Choice)
     → Chooses l (xs ++ ys) c → Chooses l (xs ++ t ∷ ys) (moved_pick (length xs) c)
-added l xs ys t not (Refused n) h = (h.0, λ j u k q. let w = was_there t ys xs j u (λ e. not (rw e q)) k in h.1 w.0 u w.1.1 q)
-added l xs ys t not (Index i) h =
+added l xs ys t not (Err n) h = (h.0, λ j u k q. let w = was_there t ys xs j u (λ e. not (rw e q)) k in h.1 w.0 u w.1.1 q)
+added l xs ys t not (Ok i) h =
     record {
       timing = h.timing;
       there = still_there t ys xs i h.timing h.there;
@@ -119,5 +118,5 @@ pub raised : {l m : Limits} (ts : List DetailedTiming) (i : ℕ) → Raised l m 
 raised {m = m} ts i r b = go (choice m ts) (chooses m ts)
   where
     go : (c : Choice) → Chooses m ts c → (j : ℕ) × ((c : Best m ts j) × (area b.timing ≤ area c.timing))
-    go (Index j) c = (j, (c, c.most i b.timing b.there (still_qualifies r b.qualifies)))
-    go (Refused n) c = absurd (c.1 i b.timing b.there (still_qualifies r b.qualifies))
+    go (Ok j) c = (j, (c, c.most i b.timing b.there (still_qualifies r b.qualifies)))
+    go (Err n) c = absurd (c.1 i b.timing b.there (still_qualifies r b.qualifies))

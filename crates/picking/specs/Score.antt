@@ -1,13 +1,12 @@
 -- The chooser's answer as a computation: the first of the greatest scores. It is the one answer that `Chooses` allows.
-use Rattle.std.specs.Prelude.{ℕ, zero, suc, ◌*◌, ◌<◌, ◌≡◌, refl, Bool, true, false, cond, List, ltb, eqb}
+use Rattle.std.specs.Prelude.{ℕ, zero, suc, ◌*◌, ◌<◌, ◌≡◌, refl, Bool, true, false, cond, List, ltb, eqb, Err, Ok}
 use Rattle.std.proofs.Common.{sym, ◌∙◌, mul-pos, zero-mul, mul_comm, arith, ltb-false, le-ltb, eqb-true}
 use Rattle.std.proofs.lemmas.Bool.{eqb-false}
 use Rattle.standard_record.specs.declared.DetailedTiming.{DetailedTiming}
 use Rattle.picking.specs.Best.{Qualifies, area, Chooses}
 use Rattle.picking.specs.First.{greatest, place, no_greater, reached, earliest}
 use Rattle.picking.specs.declared.Limits.{Limits}
-use Rattle.picking.specs.declared.Choice.{Choice}
-use Rattle.picking.specs.declared.Choice.TheVariants.{Index, Refused}
+use Rattle.picking.specs.Choice.{Choice}
 
 -- the active pixels in all of a timing that qualifies, else 0
 abbrev pub score_of : Limits → DetailedTiming → ℕ
@@ -18,7 +17,7 @@ score_of l t =
     (cond (ltb l.down.0 t.down.active.0) 0 (area t))))
 
 abbrev pub choice : Limits → List DetailedTiming → Choice
-choice l ts = cond (eqb (greatest (score_of l) ts) 0) (Refused 14) (Index (place (score_of l) ts))
+choice l ts = cond (eqb (greatest (score_of l) ts) 0) (Err 14) (Ok (place (score_of l) ts))
 
 -- ---- a timing qualifies exactly where its score is above 0
 
@@ -61,7 +60,7 @@ qualified l t h =
 pub chooses : (l : Limits) (ts : List DetailedTiming) → Chooses l ts (choice l ts)
 chooses l ts = go (eqb (greatest (score_of l) ts) 0) refl
   where
-    go : (t : Bool) → eqb (greatest (score_of l) ts) 0 ≡ t → Chooses l ts (cond t (Refused 14) (Index (place (score_of l) ts)))
+    go : (t : Bool) → eqb (greatest (score_of l) ts) 0 ≡ t → Chooses l ts (cond t (Err 14) (Ok (place (score_of l) ts)))
     go true e = (
       refl,
       λ i t h q. let s = scored l t q in omega (arith, s.0, s.1, no_greater (score_of l) ts i t h, eqb-true (greatest (score_of l) ts) 0 e),

@@ -17,11 +17,7 @@ pub struct Limits {
 }
 
 // The index of a timing, or the number of a refusal.
-#[derive(Clone, Copy)]
-pub enum Choice {
-    Index(usize),
-    Refused(u8),
-}
+pub type Choice = Result<usize, u8>;
 
 // Its active pixels in all where it qualifies; else 0, which no timing has that does.
 #[tactic(auto, using(std::proofs::lemmas::Bool::Decides::nat_tests))]
@@ -62,11 +58,7 @@ pub fn choose(limits: Limits, list: DetailedTimings) -> Choice
             at = k;
         }
     }
-    if most == 0 {
-        Choice::Refused(14)
-    } else {
-        Choice::Index(at)
-    }
+    if most == 0 { Err(14) } else { Ok(at) }
 }
 
 // Whether the timing at this index is the one to show.
@@ -74,7 +66,7 @@ pub fn accepts(limits: Limits, list: DetailedTimings, index: usize) -> bool
     ensures { Accepts limits (listed list) index result }
 {
     match choose(limits, list) {
-        Choice::Index(i) => i == index,
-        Choice::Refused(_) => false,
+        Ok(i) => i == index,
+        Err(_) => false,
     }
 }

@@ -1,4 +1,5 @@
 -- `exports::show` meets its contract. The invariant: the first k of the timing's numbers are pasted over those lent. Assumes nothing.
+use Rattle.std.specs.Prelude.{Err}
 use mathlib.Core.Path.{◌≡◌, sym, ap, ◌∙◌}
 use native.Mathlib.Nat.{zero-add}
 use native.Mathlib.Numerals.{add-one}
@@ -7,14 +8,13 @@ use lib.ListN.{length, set, get_or}
 use lib.Seq.{paste, paste-suc}
 use borrow.Author.Rules.{rules}
 use Rattle.picking.specs.Entry.{below_four}
-use Rattle.picking.specs.declared.Choice.TheVariants.{Refused}
 use Rattle.exports.proofs.Laws.{told, its_numbers}
 use Rattle.exports.proofs.show.Goals as goal
 
 pub bounds-items-i : goal.bounds-items-i
 bounds-items-i c =
     let a = c.args in
-    below_four a.limits a.list _ (rw c.in-Index.is at c.choose.ensures)
+    below_four a.limits a.list _ (rw c.in-Ok.is at c.choose.ensures)
 
 pub loop-k-preserved : goal.loop-k-preserved
 loop-k-preserved c =
@@ -30,18 +30,18 @@ loop-k-preserved c =
       search rules,
     )
 
-pub returns-in-Refused : goal.returns-in-Refused
-returns-in-Refused c =
+pub returns-in-Err : goal.returns-in-Err
+returns-in-Err c =
     let a = c.args in
-    told a.limits a.list a.numbers.now (Refused _) (rw c.in-Refused.is at c.choose.ensures)
+    told a.limits a.list a.numbers.now (Err _) (rw c.in-Err.is at c.choose.ensures)
 
 pub returns-after-loop-k : goal.returns-after-loop-k
 returns-after-loop-k c =
     let a = c.args in
     let all : c.loop-k.k ≡ 14 = omega arith in
     rw (c.loop-k.invariant.1, all, c.numbers_of-its.ensures)
-    (its_numbers a.limits a.list a.numbers.now _ _ (rw c.in-Index.is at c.choose.ensures))
+    (its_numbers a.limits a.list a.numbers.now _ _ (rw c.in-Ok.is at c.choose.ensures))
 
 pub offset_bounds-items-i : goal.offset_bounds-items-i
 offset_bounds-items-i c = let i = (let a = c.args in
-    below_four a.limits a.list _ (rw c.in-Index.is at c.choose.ensures)) in search rules
+    below_four a.limits a.list _ (rw c.in-Ok.is at c.choose.ensures)) in search rules

@@ -2,8 +2,8 @@
 use Rattle.picking.proofs.Laws.{same_index}
 use Rattle.picking.proofs.accepts.Goals as goal
 
-pub returns-in-Index : goal.returns-in-Index
-returns-in-Index c = same_index _ _ _ _ (rw c.in-Index.is at c.choose.ensures)
+pub returns-in-Ok : goal.returns-in-Ok
+returns-in-Ok c = same_index _ _ _ _ (rw c.in-Ok.is at c.choose.ensures)
 
-pub returns-in-Refused : goal.returns-in-Refused
-returns-in-Refused c = λ b. (rw c.in-Refused.is at c.choose.ensures).1 _ b.timing b.there b.qualifies
+pub returns-in-Err : goal.returns-in-Err
+returns-in-Err c = λ b. (rw c.in-Err.is at c.choose.ensures).1 _ b.timing b.there b.qualifies
