@@ -1,5 +1,5 @@
 -- Where the name stands: in the first slot with tag fc of a block that is accepted. So it begins at one of three places.
-use Rattle.std.specs.Prelude.{ℕ, zero, suc, ◌+◌, ◌≤◌, ◌<◌, ◌≡◌, Bool, List, Ok, Err}
+use Rattle.std.specs.Prelude.{ℕ, zero, suc, ◌+◌, ◌≤◌, ◌<◌, ◌≡◌, Bool, List, Ok, Err, None, Option, Some}
 use Rattle.std.proofs.Math.Path.{refl}
 use Rattle.std.proofs.Common.{sym, ◌∙◌, inl, inr, arith, eqb-true}
 use Rattle.std.proofs.Math.Bool.{true, false}
@@ -15,16 +15,14 @@ use Rattle.standard_reading.specs.Slots.{start, said_in, judge, verdict_of}
 use Rattle.standard_reading.specs.Judged.{end_is_verdict, accepted_slot}
 use Rattle.naming.specs.Name.{slot, is_named, texts_of, first, unless_refused, name_of}
 use Rattle.naming.specs.Slots.{earlier, first_append}
-use Rattle.naming.specs.declared.Named.{Named}
-use Rattle.naming.specs.declared.Named.TheVariants.{Not, By}
 use Rattle.naming.specs.Stands.{Stands, in_slot, in_none, refused, ThreePlaces, Begins}
 
 module _ (f : ℕ → Bool) (g : ℕ → Span) where
-  data First (n : ℕ) : Named → Type 0 where
-    found : (i : ℕ) → i < n → f i ≡ true → ((j : ℕ) → j < i → f j ≡ false) → First n (By (g i))
-    none : ((j : ℕ) → j < n → f j ≡ false) → First n Not
+  data First (n : ℕ) : Option Span → Type 0 where
+    found : (i : ℕ) → i < n → f i ≡ true → ((j : ℕ) → j < i → f j ≡ false) → First n (Some (g i))
+    none : ((j : ℕ) → j < n → f j ≡ false) → First n None
 
-  one_more : {n : ℕ} {name : Named} (b : Bool) → f n ≡ b → First n name → First (suc n) (earlier name (when b (g n)))
+  one_more : {n : ℕ} {name : Option Span} (b : Bool) → f n ≡ b → First n name → First (suc n) (earlier name (when b (g n)))
   one_more b e (found i h t before) = found i (omega arith) t before
   one_more {n} true e (none before) = found n (omega arith) e before
   one_more {n} false e (none before) = none (λ j h. go j h (eqb j n) refl)
@@ -38,7 +36,7 @@ module _ (f : ℕ → Bool) (g : ℕ → Span) where
   first_is (suc n) = rw first_append (one_more (f n) refl (first_is n))
 
 module _ (s : List ℕ) where
-  abbrev FirstOf : Named → Type 0
+  abbrev FirstOf : Option Span → Type 0
   FirstOf = First (λ i. is_named (slot s i)) (λ i. text_in (slot s i) (start i)) 4
 
   module _ (a : verdict_of s ≡ Ok tt) where
@@ -54,7 +52,7 @@ module _ (s : List ℕ) where
     later zero t = absurd (false≢true (sym first_timing ∙ t))
     later (suc i) t = omega arith
 
-    accepted : {name : Named} → FirstOf name → Stands s name
+    accepted : {name : Option Span} → FirstOf name → Stands s name
     accepted (found i h t before) = in_slot a i (later i t) h t before
     accepted (none before) = in_none a before
 
@@ -76,7 +74,7 @@ place (suc (suc (suc (suc i)))) l h = absurd (omega arith)
 pub begins : (s : List ℕ) → Begins (name_of s)
 begins s = go (stands s)
   where
-    go : {name : Named} → Stands s name → Begins name
+    go : {name : Option Span} → Stands s name → Begins name
     go (in_slot a i l h t before) = place i l h
     go (in_none a before) = tt
     go (refused f e) = tt

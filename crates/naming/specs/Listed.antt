@@ -1,5 +1,5 @@
 -- The name is the text that the standard record lists first under Name, and lies within the block.
-use Rattle.std.specs.Prelude.{ℕ, zero, suc, ◌+◌, ◌≤◌, ◌≡◌, refl, List, [], ◌∷◌, ◌++◌, map, length, Ok, Err}
+use Rattle.std.specs.Prelude.{ℕ, zero, suc, ◌+◌, ◌≤◌, ◌≡◌, refl, List, [], ◌∷◌, ◌++◌, map, length, Ok, Err, None, Option, Some}
 use Rattle.std.proofs.Common.{sym, ap, ◌∙◌, append-nil, append_assoc, arith}
 use Rattle.steps.specs.declared.Span.{Span}
 use Rattle.steps.specs.Spans.{Text}
@@ -17,8 +17,6 @@ use Rattle.standard_reading.specs.Judged.{end_is_verdict, accepted_has_128, acce
 use Rattle.standard_reading.specs.Room.{fits}
 use Rattle.naming.specs.Name.{slot, texts_of, first, unless_refused, name_of}
 use Rattle.naming.specs.Slots.{name_as, names, names_are}
-use Rattle.naming.specs.declared.Named.{Named}
-use Rattle.naming.specs.declared.Named.TheVariants.{Not, By}
 
 -- the texts under Name of a list of descriptors, in its order
 abbrev pub names_in : List Held → List Span
@@ -57,9 +55,9 @@ listed_first s = go (verdict_of s) refl
 
 -- ---- it is a text within the block
 
-abbrev pub SoundName : List ℕ → Named → Type 0
-SoundName s Not = Unit
-SoundName s (By t) = Text s t 126 × (length s ≡ 128)
+abbrev pub SoundName : List ℕ → Option Span → Type 0
+SoundName s None = Unit
+SoundName s (Some t) = Text s t 126 × (length s ≡ 128)
 
 pub sound_name : (s : List ℕ) → SoundName s (name_of s)
 unfolding name_of

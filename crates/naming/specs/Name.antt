@@ -1,5 +1,5 @@
 -- The name to show: the first fc text of the panel's block, or, where it has none, that of the reference block.
-use Rattle.std.specs.Prelude.{ℕ, ◌+◌, ◌≤◌, ◌≡◌, Bool, ◌&&◌, List, [], ◌∷◌, eqb, length, Ok, Err}
+use Rattle.std.specs.Prelude.{ℕ, ◌+◌, ◌≤◌, ◌≡◌, Bool, ◌&&◌, List, [], ◌∷◌, eqb, length, Ok, Err, None, Option, Some}
 use Rattle.std.specs.Borrow.{Bor}
 use Rattle.bits.specs.Bytes.{◌!◌, part}
 use Rattle.fixed.specs.Gather.{gather, when}
@@ -8,8 +8,6 @@ use Rattle.standard_record.specs.Verdict.{Verdict}
 use Rattle.standard_timing.specs.Timing.{clock_in}
 use Rattle.standard_slots.specs.Said.{text_in}
 use Rattle.standard_reading.specs.Slots.{start, verdict_of}
-use Rattle.naming.specs.declared.Named.{Named}
-use Rattle.naming.specs.declared.Named.TheVariants.{Not, By}
 use Rattle.naming.specs.declared.Shown.{Shown}
 use Rattle.naming.specs.declared.Shown.TheVariants.{Panel, Reference, Neither}
 
@@ -27,24 +25,24 @@ is_named t = eqb (clock_in t) 0 && eqb (t ! 3) 0xfc
 abbrev pub texts_of : List ℕ → ℕ → List Span
 texts_of s n = gather (λ i. when (is_named (slot s i)) (text_in (slot s i) (start i))) n
 
-abbrev pub first : List Span → Named
-first [] = Not
-first (t ∷ ts) = By t
+abbrev pub first : List Span → Option Span
+first [] = None
+first (t ∷ ts) = Some t
 
 -- a block that the standard reading refuses counts as having no name
-abbrev pub unless_refused : Verdict → Named → Named
+abbrev pub unless_refused : Verdict → Option Span → Option Span
 unless_refused (Ok tt) name = name
-unless_refused (Err f) name = Not
+unless_refused (Err f) name = None
 
-unfoldable pub name_of : List ℕ → Named
+unfoldable pub name_of : List ℕ → Option Span
 name_of s = unless_refused (verdict_of s) (first (texts_of s 4))
 
 -- ---- of two: the panel's, else the reference's
 
-abbrev pub shown : Named → Named → Shown
-shown (By t) reference = Panel t
-shown Not (By t) = Reference t
-shown Not Not = Neither
+abbrev pub shown : Option Span → Option Span → Shown
+shown (Some t) reference = Panel t
+shown None (Some t) = Reference t
+shown None None = Neither
 
 abbrev pub shown_of : List ℕ → List ℕ → Shown
 shown_of panel reference = shown (name_of panel) (name_of reference)

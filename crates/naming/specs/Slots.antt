@@ -1,5 +1,5 @@
 -- What the code looks at: a slot that is not refused says a name exactly where it is no timing and its tag is fc.
-use Rattle.std.specs.Prelude.{ℕ, ◌≡◌, Bool, ◌&&◌, ltb, Ok, None, Option, Some}
+use Rattle.std.specs.Prelude.{ℕ, ◌≡◌, Bool, ◌&&◌, ltb, Ok, None, Option, Some, Result, Err}
 use Rattle.std.proofs.Math.Path.{refl}
 use Rattle.std.proofs.Math.Bool.{true, false, cond}
 use mathlib.Core.List.{List, [], ◌∷◌, ◌++◌}
@@ -20,8 +20,6 @@ use Rattle.standard_slots.specs.Said.{Said, refusal, nothing, timing, pairs, poi
 use Rattle.standard_slots.specs.Each.{either}
 use Rattle.standard_reading.specs.Slots.{judge}
 use Rattle.naming.specs.Name.{is_named, first}
-use Rattle.naming.specs.declared.Named.{Named}
-use Rattle.naming.specs.declared.Named.TheVariants.{Not, By}
 
 -- the text of a name
 abbrev pub name_as : Descriptor → List Span
@@ -33,9 +31,9 @@ name_as (Descriptor.Undefined tag d) = []
 name_as (Descriptor.MakerDefined tag d) = []
 
 -- the text found before, else the first of these
-abbrev pub earlier : Named → List Span → Named
-earlier (By t) ts = By t
-earlier Not ts = first ts
+abbrev pub earlier : Option Span → List Span → Option Span
+earlier (Some t) ts = Some t
+earlier None ts = first ts
 
 pub first_append : (ts us : List Span) → first (ts ++ us) ≡ earlier (first ts) us
 first_append [] us = refl
@@ -81,10 +79,11 @@ names (described d) = name_as d
 
 module _ (σ : Structure) (t : List ℕ) (at : ℕ) where
   -- no name, also behind a test
-  none : (n : ℕ) (x : Said) → names x ≡ [] → names (unless n x) ≡ []
-  none n x h = either (λ y. names y ≡ []) (eqb n 0) h refl
+  none : (r : Result Unit ℕ) (x : Said) → names x ≡ [] → names (unless r x) ≡ []
+  none (Ok u) x h = h
+  none (Err n) x h = refl
 
-  abbrev padding : ℕ
+  abbrev padding : Result Unit ℕ
   padding = padding_refusal t (text_in t at).len
 
   by_tag_lem : (tag : Tag) → judge (by_tag σ tag t at) at ≡ Ok tt → names (by_tag σ tag t at) ≡ when (is_name tag) (text_in t at)
@@ -92,11 +91,11 @@ module _ (σ : Structure) (t : List ℕ) (at : ℕ) where
   by_tag_lem Tag.Dummy e = refl
   by_tag_lem Tag.Pairs e = none (closing_refusal (t ! 17) true) (pairs (pairs_in σ t)) refl
   by_tag_lem Tag.Points e = none (closing_refusal (t ! 15) (all_spaces (part t 16 2))) (points (points_in t)) refl
-  by_tag_lem Tag.Name e = go (eqb padding 0) e
+  by_tag_lem Tag.Name e = go padding e
     where
-      go : (b : Bool) → let x = cond b (described (Descriptor.Name (text_in t at))) (refusal padding) in judge x at ≡ Ok tt → names x ≡ text_in t at ∷ []
-      go true e = refl
-      go false e = cc
+      go : (r : Result Unit ℕ) → let x = unless r (described (Descriptor.Name (text_in t at))) in judge x at ≡ Ok tt → names x ≡ text_in t at ∷ []
+      go (Ok u) e = refl
+      go (Err n) e = cc
   by_tag_lem Tag.Range e = none (range_refusal (t ! 10) (t ! 11) (all_spaces (part t 12 6))) (described (range_in σ t at)) refl
   by_tag_lem Tag.Text e = none padding (described (Descriptor.Text (text_in t at))) refl
   by_tag_lem Tag.Serial e = none padding (described (Descriptor.Serial (text_in t at))) refl

@@ -9,13 +9,6 @@ use standard_record::Descriptor;
 use standard_slots::Slot;
 use steps::Span;
 
-// The first fc text of a block, by its place.
-#[derive(Clone, Copy)]
-pub enum Named {
-    Not,
-    By(Span),
-}
-
 // Which block's is shown.
 #[derive(Clone, Copy)]
 pub enum Shown {
@@ -25,39 +18,35 @@ pub enum Shown {
 }
 
 // The text found before, else that of d, if it is a name.
-fn earlier(name: Named, d: Descriptor) -> Named
+fn earlier(name: Option<Span>, d: Descriptor) -> Option<Span>
     ensures { result ≡ earlier name (name_as d) }
 {
-    match name {
-        Named::By(t) => Named::By(t),
-        Named::Not => match d {
-            Descriptor::Name(t) => Named::By(t),
-            _ => Named::Not,
-        },
+    match (name, d) {
+        (Some(t), _) => Some(t),
+        (None, Descriptor::Name(t)) => Some(t),
+        _ => None,
     }
 }
 
-// Each slot is judged, also behind a name: a block that is refused has none.
-fn name_in(s: &[u8]) -> Named
+// The first fc text of a block, by its place. Each slot is judged, also behind a name: a block that is refused has none.
+fn name_in(s: &[u8]) -> Option<Span>
     ensures { result ≡ name_of s.now }
 {
     let Ok(()) = standard_verdict::before_slots(s) else {
-        return Named::Not;
+        return None;
     };
     let structure = standard_parts::structure_of(s[19]);
-    let mut name = Named::Not;
-    let mut i: u8 = 0;
-    while i < 4 {
+    let mut name = None;
+    for i in 0..4u8 {
         let at = 54 + 18 * i;
         let from = at as usize;
-        match standard_slots::said(structure, i, &s[from..from + 18], at) {
-            Slot::Refused(_) => return Named::Not,
-            Slot::Described(d) => {
-                name = earlier(name, d);
-            }
-            _ => {}
+        let says = match standard_slots::said(structure, i, &s[from..from + 18], at) {
+            Ok(says) => says,
+            Err(_) => return None,
+        };
+        if let Slot::Described(d) = says {
+            name = earlier(name, d);
         }
-        i += 1;
     }
     name
 }
@@ -66,12 +55,12 @@ fn name_in(s: &[u8]) -> Named
 fn found(panel: &[u8], reference: &[u8]) -> Shown
     ensures { result ≡ shown_of panel.now reference.now }
 {
-    match name_in(panel) {
-        Named::By(t) => Shown::Panel(t),
-        Named::Not => match name_in(reference) {
-            Named::By(t) => Shown::Reference(t),
-            Named::Not => Shown::Neither,
-        },
+    if let Some(t) = name_in(panel) {
+        return Shown::Panel(t);
+    }
+    match name_in(reference) {
+        Some(t) => Shown::Reference(t),
+        None => Shown::Neither,
     }
 }
 

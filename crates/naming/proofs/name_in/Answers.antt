@@ -18,17 +18,16 @@ use Rattle.standard_reading.specs.Slots.{start, said_in, judge, judged}
 use Rattle.naming.specs.Slots.{names}
 use Rattle.naming.proofs.Laws.{one_more, no_more, refused_before, refused_slot, passed_all}
 use Rattle.naming.proofs.name_in.Goals as goal
-use Rattle.naming.proofs.name_in.Goals.{in-Described, in_default-said}
+use Rattle.naming.proofs.name_in.Goals.{in-Described, in_default-says}
 
--- the kinds of slot that are neither refused nor described
-others : (ps : List StandardTiming) (at : ℕ) (r : Slot) → ((n : ℕ) → r ≡ Slot.Refused n → ⊥) → ((d : Descriptor) → r ≡ Slot.Described d → ⊥)
-    → (judge (of_slot ps r) at ≡ Ok tt) × (names (of_slot ps r) ≡ [])
-others ps at (Slot.Refused n) a b = absurd (a n refl)
-others ps at Slot.Nothing a b = (refl, refl)
-others ps at (Slot.Timing d) a b = (refl, refl)
-others ps at Slot.Pairs a b = (refl, refl)
-others ps at (Slot.Points ws) a b = (refl, refl)
-others ps at (Slot.Described d) a b = absurd (b d refl)
+-- the kinds of slot that are not described
+others : (ps : List StandardTiming) (at : ℕ) (r : Slot) → ((d : Descriptor) → r ≡ Slot.Described d → ⊥)
+    → (judge (of_slot ps (Ok r)) at ≡ Ok tt) × (names (of_slot ps (Ok r)) ≡ [])
+others ps at Slot.Nothing b = (refl, refl)
+others ps at (Slot.Timing d) b = (refl, refl)
+others ps at Slot.Pairs b = (refl, refl)
+others ps at (Slot.Points ws) b = (refl, refl)
+others ps at (Slot.Described d) b = absurd (b d refl)
 
 pub returns-in_default : goal.returns-in_default
 returns-in_default c = sym (refused_before _ _ (sym c.before_slots.ensures ∙ c.in_default.is))
@@ -47,14 +46,14 @@ returns c =
     let all : c.loop-i.i ≡ 4 = omega arith in
     passed_all _ (rw all at c.loop-i.invariant.2)
 
-pub returns-in-Refused : goal.returns-in-Refused
-returns-in-Refused c =
+pub returns-in-Err : goal.returns-in-Err
+returns-in-Err c =
     let s = c.args.s.now in
     let i = c.loop-i.i in
     let is : said_in s i ≡ of_slot (pairs_in (structure_in s) (part s (start i) 18)) c.said.result =
     sym (rw (add-sub_cancel_left, c.structure_of-structure.ensures) at c.said.ensures)
     in
-    sym (refused_slot _ _ _ (omega arith) (is ∙ ap (of_slot _) c.in-Refused.is))
+    sym (refused_slot _ _ _ (omega arith) (is ∙ ap (of_slot _) c.in-Err.is))
 
 pub loop-i-preserved : goal.loop-i-preserved
 loop-i-preserved c =
@@ -66,8 +65,8 @@ loop-i-preserved c =
     in (
       search rules,
       search rules,
-      elim c.match-said.branch [
-        | in-Described w ↦ rw (w.name-is, w.earlier-name.ensures) (one_more _ h (is ∙ ap (of_slot _) w.in-Described.is) refl)
-        | in_default-said w ↦ rw w.name-is (let o = others _ _ c.said.result w.in_default-said.not-Refused w.in_default-said.not-Described in no_more _ h is o.0 o.1)
+      elim c.match-says.branch [
+        | in-Described w ↦ rw (w.name-is, w.earlier-name.ensures) (one_more _ h (is ∙ ap (of_slot _) (c.in-Ok-said.is ∙ ap Ok w.in-Described.is)) refl)
+        | in_default-says w ↦ rw w.name-is (let o = others _ _ c.in-Ok-said.says w.in_default-says.not-Described in no_more _ h (is ∙ ap (of_slot _) c.in-Ok-said.is) o.0 o.1)
       ],
     )
