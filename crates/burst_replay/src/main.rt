@@ -5,6 +5,7 @@
 
 use bursts::Report;
 use frames::Came;
+use page::Page;
 use std::io;
 use std::io::{Read, Write};
 use steps::Cursor;
@@ -69,7 +70,9 @@ fn answer_burst<R: Read, W: Write>(
     let Came::All(n) = frames::read_frame(input, space)? else {
         return Ok(false);
     };
-    let end = report_line(out, bursts::take(state, start(space, n)));
+    let mut page = Page { out, at: 0 };
+    report_line(&mut page, bursts::take(state, start(space, n)));
+    let end = page.at;
     output.write_all(frames::start(out, end))?;
     Ok(true)
 }
@@ -81,23 +84,25 @@ fn start(space: &[u8; 65536], n: usize) -> &[u8] {
 }
 
 // The line of what is told after a burst.
-fn report_line(out: &mut [u8; 4096], report: Report) -> usize {
+fn report_line(page: &mut Page, report: Report) {
     match report {
-        Report::Waiting => page::bytes(out, 0, b"waiting\n"),
-        Report::At(c) => accept_line(out, c),
-        Report::Refused(f) => shared_lines::refuse_line(out, 0, f),
+        Report::Waiting => page.bytes(b"waiting\n"),
+        Report::At(c) => accept_line(page, c),
+        Report::Refused(f) => shared_lines::refuse_line(page, f),
     }
 }
 
-fn accept_line(out: &mut [u8; 4096], c: Cursor) -> usize {
-    let mut n = page::bytes(out, 0, b"accept");
-    n = page::field(out, n, c.at);
-    page::newline(out, n)
+fn accept_line(page: &mut Page, c: Cursor) {
+    page.bytes(b"accept");
+    page.field(c.at);
+    page.newline();
 }
 
 // Writes the listing of the final answer.
 fn answer_end<W: Write>(output: &mut W, state: &[u8; 146], out: &mut [u8; 4096]) -> io::Result<()> {
-    let listed = crate_lines::listing(out, bursts::held(state), bursts::finish(state));
-    let end = page::bytes(out, listed, b"--\n");
+    let at = crate_lines::listing(out, bursts::held(state), bursts::finish(state));
+    let mut page = Page { out, at };
+    page.bytes(b"--\n");
+    let end = page.at;
     output.write_all(frames::start(out, end))
 }

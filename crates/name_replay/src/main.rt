@@ -3,6 +3,7 @@
 #![tactic(auto)]
 
 use frames::Came;
+use page::Page;
 use std::io;
 use std::io::{Eprint, Read, Write};
 
@@ -47,8 +48,10 @@ fn answer_one<R: Read, W: Write, E: Eprint>(
 // Writes the line of a frame, after which the next one is read.
 fn answer<'a, W: Write>(output: &mut W, panel: &'a [u8], reference: &'a [u8]) -> io::Result<bool> {
     let mut out = [0u8; 4096];
-    let listed = name_lines::listing(&mut out, panel, reference);
-    let end = page::bytes(&mut out, listed, b"--\n");
+    let at = name_lines::listing(&mut out, panel, reference);
+    let mut page = Page { out: &mut out, at };
+    page.bytes(b"--\n");
+    let end = page.at;
     output.write_all(frames::start(&out, end))?;
     Ok(true)
 }

@@ -16,12 +16,12 @@ fn check(out: &mut [u8; 4096], s: &[u8]) -> usize {
         return pick_lines::listing(out, s);
     };
     let r = standard_reading::read_standard(&s[asked.block..]);
-    let mut page = Page::new(out);
+    let mut page = Page { out, at: 0 };
     match r.end {
         Err(f) => shared_lines::refuse_line(&mut page, f),
         Ok(()) => flags(&mut page, asked.limits, r.edid.timings.detailed),
     }
-    page.len()
+    page.at
 }
 
 fn flags(page: &mut Page, limits: Limits, list: DetailedTimings) {

@@ -2,6 +2,7 @@
 // bytes, at most 4,096; for each frame the crate listing is written, then a line `--`.
 #![tactic(auto)]
 
+use page::Page;
 use std::io;
 
 fn main(rt: HostRuntime) -> io::Result<()> {
@@ -10,6 +11,8 @@ fn main(rt: HostRuntime) -> io::Result<()> {
 
 // The listing of a frame.
 fn answer(out: &mut [u8; 4096], s: &[u8]) -> usize {
-    let listed = crate_lines::listing(out, s, crate_reading::read(s));
-    page::bytes(out, listed, b"--\n")
+    let at = crate_lines::listing(out, s, crate_reading::read(s));
+    let mut page = Page { out, at };
+    page.bytes(b"--\n");
+    page.at
 }

@@ -2,7 +2,8 @@
 // writer has it. A block that the reading refuses is answered by the line `refuse`, number and place.
 #![tactic(auto)]
 
-use standard_record::StandardRecord;
+use page::Page;
+use standard_record::{StandardRecord, Verdict};
 use std::io;
 use steps::Refusal;
 
@@ -12,20 +13,21 @@ fn main(rt: HostRuntime) -> io::Result<()> {
 
 fn rewrite(out: &mut [u8; 4096], s: &[u8]) -> usize {
     let r = standard_reading::read_standard(s);
-    let end = r.end;
-    match end {
-        Err(f) => shared_lines::refuse_line(out, 0, f),
-        Ok(()) => write(out, s, r.edid),
+    let mut page = Page { out, at: 0 };
+    match r.end {
+        Err(f) => shared_lines::refuse_line(&mut page, f),
+        Ok(()) => write(&mut page, s, r.edid),
     }
+    page.at
 }
 
 // The block, or the writer's refusal, which no record that was read is given.
-fn write(out: &mut [u8; 4096], s: &[u8], edid: StandardRecord) -> usize {
+fn write(page: &mut Page, s: &[u8], edid: StandardRecord) {
     let mut block = [0u8; 128];
     let number = standard_writing::write_standard(edid, s, &mut block);
     if number == 0 {
-        page::bytes(out, 0, &block)
+        page.bytes(&block);
     } else {
-        shared_lines::refuse_line(out, 0, Refusal { number, at: 0 })
+        shared_lines::refuse_line(page, Refusal { number, at: 0 });
     }
 }

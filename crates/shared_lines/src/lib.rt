@@ -189,10 +189,10 @@ pub fn raw(page: &mut Page, s: &[u8], k: u8, d: Span)
 }
 
 #[tactic(auto, using(page::specs::Laws::appends), unfolding(crate::specs::Lines::raw_fields))]
-pub fn raw_fields(page: &mut Page, word: &[u8], s: &[u8], tag: u8, d: Span)
-    ensures { page.new ≡ page.old ▷ lines.raw_fields word.now s.now tag d }
+pub fn raw_fields(page: &mut Page, what: &[u8], s: &[u8], tag: u8, d: Span)
+    ensures { page.new ≡ page.old ▷ lines.raw_fields what.now s.now tag d }
 {
-    page.bytes(word);
+    page.bytes(what);
     raw(page, s, tag, d);
 }
 

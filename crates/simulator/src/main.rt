@@ -3,6 +3,7 @@
 // the first the new timing too.
 #![tactic(auto)]
 
+use page::Page;
 use standard_record::{Descriptor, Held, HeldPair, Ratio, StandardRecord, StandardTiming};
 use std::io;
 use std::io::Write;
@@ -21,37 +22,39 @@ fn main(rt: HostRuntime) -> io::Result<()> {
         UPPER DECK";
     let before = standard_reading::read_standard(bits::part(lent, 0, 128)).edid;
     let mut out = [0u8; 4096];
-    let mut n = standard_slot_lines::detailed_lines(&mut out, 0, before.timings.detailed);
+    let mut page = Page { out: &mut out, at: 0 };
+    standard_slot_lines::detailed_lines(&mut page, before.timings.detailed);
     // The texts of a record are spans: the bytes that they point into are lent beside it, here all of them.
     let mut block = [0u8; 128];
     let answer = standard_writing::write_standard(renamed(further_left(before)), lent, &mut block);
-    n = tell(&mut out, n, answer, &block);
+    tell(&mut page, answer, &block);
     let after = standard_reading::read_standard(&block).edid;
-    n = standard_slot_lines::detailed_lines(&mut out, n, after.timings.detailed);
+    standard_slot_lines::detailed_lines(&mut page, after.timings.detailed);
     // An output that is not 128 bytes long is refused with 10, a record that no block gives with 11; the output stays as it was.
     let mut short = [0x55u8; 127];
     let ten = standard_writing::write_standard(before, lent, &mut short);
-    n = tell(&mut out, n, ten, &short);
+    tell(&mut page, ten, &short);
     let mut kept = [0x55u8; 128];
     // The bytes of 256 wide, 16:10 at 61 Hz would be 01 01, which stand for no pair.
     let unused = with_pair(before, 256, 16, 10, 61);
     let eleven = standard_writing::write_standard(unused, lent, &mut kept);
-    n = tell(&mut out, n, eleven, &kept);
+    tell(&mut page, eleven, &kept);
     // 1:1 is no ratio of revision 3, which this panel has; of revision 2 it is.
     let square = with_pair(before, 1280, 1, 1, 60);
     let eleven = standard_writing::write_standard(square, lent, &mut kept);
-    n = tell(&mut out, n, eleven, &kept);
+    tell(&mut page, eleven, &kept);
     let old = standard_writing::write_standard(of_revision(square, 2), lent, &mut kept);
-    n = tell(&mut out, n, old, &kept);
+    tell(&mut page, old, &kept);
+    let n = page.at;
     rt.stdout().write_all(frames::start(&out, n))
 }
 
-fn tell(out: &mut [u8; 4096], at: usize, answer: u8, block: &[u8]) -> usize {
-    let mut n = page::bytes(out, at, b"answer");
-    n = page::field8(out, n, answer);
-    n = page::newline(out, n);
-    n = page::hex_span(out, n, block, 0, block.len());
-    page::newline(out, n)
+fn tell(page: &mut Page, answer: u8, block: &[u8]) {
+    page.bytes(b"answer");
+    page.field(answer);
+    page.newline();
+    page.hex_span(block, 0, block.len());
+    page.newline();
 }
 
 // The picture of the first timing eight pixels further left: its front porch is eight more, its back porch eight fewer. What lies deep in a

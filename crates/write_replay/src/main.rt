@@ -3,7 +3,8 @@
 // that the writer makes of it, and then a line `--`.
 #![tactic(auto)]
 
-use standard_record::StandardRecord;
+use page::Page;
+use standard_record::{StandardRecord, Verdict};
 use std::io;
 use steps::Refusal;
 
@@ -13,27 +14,28 @@ fn main(rt: HostRuntime) -> io::Result<()> {
 
 // The answer to a frame.
 fn answer(out: &mut [u8; 4096], s: &[u8]) -> usize {
-    let n = rewrite(out, s);
-    page::bytes(out, n, b"--\n")
+    let mut page = Page { out, at: 0 };
+    rewrite(&mut page, s);
+    page.bytes(b"--\n");
+    page.at
 }
 
-fn rewrite(out: &mut [u8; 4096], s: &[u8]) -> usize {
+fn rewrite(page: &mut Page, s: &[u8]) {
     let r = standard_reading::read_standard(s);
-    let end = r.end;
-    match end {
-        Err(f) => shared_lines::refuse_line(out, 0, f),
-        Ok(()) => block_line(out, s, r.edid),
+    match r.end {
+        Err(f) => shared_lines::refuse_line(page, f),
+        Ok(()) => block_line(page, s, r.edid),
     }
 }
 
 // The block, or the writer's refusal, which no record that was read is given.
-fn block_line(out: &mut [u8; 4096], s: &[u8], edid: StandardRecord) -> usize {
+fn block_line(page: &mut Page, s: &[u8], edid: StandardRecord) {
     let mut block = [0u8; 128];
     let number = standard_writing::write_standard(edid, s, &mut block);
     if number != 0 {
-        return shared_lines::refuse_line(out, 0, Refusal { number, at: 0 });
+        return shared_lines::refuse_line(page, Refusal { number, at: 0 });
     }
-    let mut n = page::bytes(out, 0, b"block ");
-    n = page::hex_span(out, n, &block, 0, 128);
-    page::newline(out, n)
+    page.bytes(b"block ");
+    page.hex_span(&block, 0, 128);
+    page.newline();
 }
