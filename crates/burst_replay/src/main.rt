@@ -10,13 +10,10 @@ use std::io;
 use std::io::{Read, Write};
 use steps::Cursor;
 
-// A proved loop has to end, and nothing says that the input does: it counts to a number that no run reaches.
-const MOST: u64 = 4294967296;
-
 fn main(rt: HostRuntime) -> io::Result<()> {
     let mut space = [0u8; 65536];
     let mut out = [0u8; 4096];
-    for number in 0..MOST {
+    for number in 0..frames::MOST {
         match answer_one(&mut rt.stdin(), &mut rt.stdout(), &mut space, &mut out)? {
             Script::Whole => {}
             Script::None => break,
@@ -71,16 +68,10 @@ fn answer_burst<R: Read, W: Write>(
         return Ok(false);
     };
     let mut page = Page { out, at: 0 };
-    report_line(&mut page, bursts::take(state, start(space, n)));
+    report_line(&mut page, bursts::take(state, frames::start(space, n)));
     let end = page.at;
     output.write_all(frames::start(out, end))?;
     Ok(true)
-}
-
-// The first n bytes, all of them where there are fewer.
-fn start(space: &[u8; 65536], n: usize) -> &[u8] {
-    let s: &[u8] = space;
-    if n <= s.len() { &s[0..n] } else { s }
 }
 
 // The line of what is told after a burst.

@@ -7,11 +7,8 @@ use page::Page;
 use std::io;
 use std::io::{Eprint, Read, Write};
 
-// A proved loop has to end, and nothing says that the input does: it counts to a number that no run reaches.
-const MOST: u64 = 4294967296;
-
 fn main(rt: HostRuntime) -> io::Result<()> {
-    for number in 0..MOST {
+    for number in 0..frames::MOST {
         if !answer_one(&mut rt.stdin(), &mut rt.stdout(), &rt, number)? {
             break;
         }
