@@ -1,5 +1,5 @@
 -- What the lines of the slots say in a panel's text: each entry, from the words of its line. The slot's number stands last in each.
-use Rattle.std.specs.Prelude.{ℕ, Bool, true, false, cond, Option, Some, None, List, eqb}
+use Rattle.std.specs.Prelude.{ℕ, Bool, true, false, cond, Option, Some, None, List, eqb, replicate}
 use Rattle.page.specs.Words.{text}
 use Rattle.timing.specs.Axis.{pixels, lines}
 use Rattle.timing.specs.Rest.{polarity_of}
@@ -90,6 +90,11 @@ kept_in l =
 abbrev pub kept_length : Option Kept → ℕ
 kept_length None = 0
 kept_length (Some kept) = kept.len
+
+-- in their thirteen places
+abbrev pub kept_places : Option Kept → List ℕ
+kept_places None = replicate 13 0
+kept_places (Some kept) = kept.bytes
 
 unfoldable pub span_of : List ℕ → ℕ → Span
 span_of l at = record { start = at; len = kept_length (kept_in l) }

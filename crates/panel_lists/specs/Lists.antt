@@ -12,8 +12,8 @@ use Rattle.standard_record.specs.Lists.{WhitePoints}
 use Rattle.standard_record.specs.Lists.{StandardTimings}
 use Rattle.standard_record.specs.Lists.{DetailedTimings}
 use Rattle.standard_record.specs.declared.Held.{Held}
-use Rattle.standard_record.specs.Lists.{Descriptors}
-use Rattle.panel_entries.specs.Entries.{point_of, pair_of, held_timing_of, kept_in, held_of}
+use Rattle.standard_record.specs.declared.Descriptors.{Descriptors}
+use Rattle.panel_entries.specs.Entries.{point_of, pair_of, held_timing_of, kept_in, kept_places, held_of}
 
 -- of the lines that count those from a place on and before another
 unfoldable pub between : List ℕ → ℕ → ℕ → List (List ℕ)
@@ -42,7 +42,7 @@ entries_of s from to = descriptors (held_from 0 (between s from to))
 
 -- the bytes of three, in their places
 unfoldable pub bytes_of : List ℕ → ℕ → ℕ → List ℕ
-bytes_of s from to = pad 39 0 (each (λ l. (kept_in l).bytes) (between s from to))
+bytes_of s from to = pad 39 0 (each (λ l. kept_places (kept_in l)) (between s from to))
 
 -- ---- established timings: one line, a number for each behind its first word
 

@@ -1,22 +1,20 @@
--- `panel_lists::line` meets its contract: by whether the place at i is before the last. Assumes nothing.
-use mathlib.Core.Path.{sym, ◌∙◌}
-use native.Mathlib.Omega.{arith}
-use borrow.Author.Tests.{ltb-true}
-use Rattle.panel_lists.specs.Laws.{line_at, line_past}
+-- `panel_lists::line` meets its contract: by whether the place at i is before the last, and a line stands there. Assumes nothing.
+use Rattle.std.specs.Prelude.{Some, length, ◌≡◌}
+use Rattle.std.proofs.Common.{ap, ◌∙◌, rules}
+use Rattle.panel_lists.specs.Laws.{line_past, line_missing, line_at}
 use Rattle.panel_lists.proofs.line.Goals as goal
-use Rattle.panel_lists.proofs.line.Goals.{else-from-to-via-then-from-to+else-i-to, else-from-to-via-else-from-to}
 
-pub returns-then-i-to : goal.returns-then-i-to
-returns-then-i-to c = c.content.ensures ∙ sym (line_at _ _ _ _ c.if-i-to.true)
+pub returns-then-i-saturating_sub : goal.returns-then-i-saturating_sub
+returns-then-i-saturating_sub c =
+    line_past _ _ _ _ (rw c.saturating_sub.ensures at c.if-i-saturating_sub.true)
 
-pub overflow_add-from : goal.overflow_add-from
-overflow_add-from c = omega (arith, ltb-true)
+pub returns-then-is_empty : goal.returns-then-is_empty
+returns-then-is_empty c =
+    let e : length c.content-l.result.now ≡ 0 = search rules in
+    line_missing _ _ _ _ (rw c.content-l.ensures at e)
 
-pub returns-else-from-to : goal.returns-else-from-to
-returns-else-from-to c =
-    sym
-    (line_past _ c.args.from c.args.to c.args.i
-    (elim c.else-from-to.branch [
-      | else-from-to-via-then-from-to+else-i-to w ↦ w.if-i-to.false
-      | else-from-to-via-else-from-to w ↦ omega arith
-    ]))
+pub returns-else-is_empty : goal.returns-else-is_empty
+returns-else-is_empty c =
+    let h = rw c.saturating_sub.ensures at c.if-i-saturating_sub.false in
+    let e : length c.content-l.result.now ≡ 0 → ⊥ = λ z. search rules in
+    ap Some c.content-l.ensures ∙ line_at _ _ _ _ h (rw c.content-l.ensures at e)

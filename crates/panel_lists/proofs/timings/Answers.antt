@@ -1,24 +1,14 @@
--- `panel_lists::timings` meets its contract. The invariant: the timings passed are in the array. Assumes nothing.
-use mathlib.Core.Path.{refl}
-use borrow.Author.Rules.{rules}
+-- `panel_lists::timings` meets its contract: each line gives a timing. Assumes nothing.
+use Rattle.std.specs.Prelude.{refl, map}
+use Rattle.std.proofs.Common.{sym, ◌∙◌, rules, tests}
+use Rattle.std.proofs.lemmas.Option.{slice_get-map}
+use Rattle.standard_record.specs.Filler.{blank_detailed}
 use Rattle.panel_entries.specs.Entries.{held_timing_of}
-use Rattle.panel_lists.specs.Lists.{timings_of}
-use Rattle.panel_lists.specs.Laws.{full, mapped, told, all_told}
+use Rattle.panel_lists.specs.Lists.{between, timings_of}
 use Rattle.panel_lists.proofs.timings.Goals as goal
-
-pub loop-len-init : goal.loop-len-init
-loop-len-init c = record { holds = record { are = refl; many = refl } }
-
-pub returns-then-l-eq0 : goal.returns-then-l-eq0
-unfolding timings_of
-returns-then-l-eq0 c =
-    let h = all_told _ _ _ (mapped held_timing_of _) c.loop-len.invariant c.line-l.ensures c.if-l-eq0.true in
-    λ j. record { items = h.are j; len = h.many j }
-
-pub loop-len-preserved : goal.loop-len-preserved
-loop-len-preserved c =
-    told _ _ _ (mapped held_timing_of _) c.loop-len.invariant c.line-l.ensures c.if-l-eq0.false (search rules) c.held_timing.ensures
 
 pub returns : goal.returns
 unfolding timings_of
-returns c = let h = full c.loop-len.invariant (search rules) in λ j. record { items = h.are j; len = h.many j }
+returns c =
+    let h = c.filled-len.ensures blank_detailed (map held_timing_of (between c.args.s.now c.args.from c.args.to)) refl (λ i r m p. sym (slice_get-map held_timing_of (between c.args.s.now c.args.from c.args.to) i ∙ search (rules, tests))) in
+    λ j. record { items = h.are j; len = h.many j }
