@@ -1,10 +1,8 @@
 -- Which line of a panel's text stands where. Of the lines that count, the first seven are of the kinds 0 to 6; then come white points, the line of the
 -- established timings, standard timings, detailed timings, descriptors, and the line of the extensions, which is the last.
-use Rattle.std.specs.Prelude.{ℕ, zero, suc, ◌+◌, Bool, cond, ◌&&◌, List, [], eqb, leb, ltb, length, get_or}
+use Rattle.std.specs.Prelude.{ℕ, zero, suc, ◌+◌, Bool, cond, ◌&&◌, List, [], eqb, leb, ltb, length, get_or, Result, Ok, Err}
 use Rattle.panel_forms.specs.Forms.{is_line}
 use Rattle.panel_layout.specs.declared.Places.{Places}
-use Rattle.panel_layout.specs.declared.Laid.{Laid}
-use Rattle.panel_layout.specs.declared.Laid.TheVariants.{Has, Wrong}
 
 -- how many lines from the place k on pass a test one after the other, at most n
 unfoldable pub run_by : (ℕ → List ℕ → Bool) → ℕ → List (List ℕ) → ℕ → ℕ
@@ -36,8 +34,8 @@ wrong_at ls p =
     (cond (is_line 12 (get_or ls p.extensions [])) (p.extensions + 1) p.extensions)
     p.established)
 
-unfoldable pub layout_by : List (List ℕ) → Places → Laid
-layout_by ls p = cond (eqb (wrong_at ls p) (p.extensions + 1) && leb (length ls) (p.extensions + 1)) (Has p) (Wrong (wrong_at ls p))
+unfoldable pub layout_by : List (List ℕ) → Places → Result Places ℕ
+layout_by ls p = cond (eqb (wrong_at ls p) (p.extensions + 1) && leb (length ls) (p.extensions + 1)) (Ok p) (Err (wrong_at ls p))
 
-unfoldable pub layout_of : List (List ℕ) → Laid
+unfoldable pub layout_of : List (List ℕ) → Result Places ℕ
 layout_of ls = layout_by ls (places_of ls)

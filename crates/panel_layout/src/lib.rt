@@ -3,7 +3,11 @@
 
 ghost use Rattle.std.specs.Prelude.{◌≤◌, ◌≡◌};
 ghost use Rattle.text_lines.specs.Lines.{lines, counted};
-ghost use Rattle.panel_layout.specs.Layout.{run, places_of, heads, wrong_at, layout_of};
+ghost use Rattle.panel_forms.specs.Numbers.{kind_number};
+ghost use Rattle.panel_layout.specs.Layout.{run, places_of, layout_of};
+ghost use Rattle.panel_layout.specs.Along.{due, heads_due};
+
+use panel_forms::LineKind;
 
 // Of the lines that count: where the line of the established timings stands, where standard timings, detailed timings and descriptors begin, and where the
 // line of the extensions stands.
@@ -16,85 +20,76 @@ pub struct Places {
     pub extensions: usize,
 }
 
-// Or the place of the first line that is wrong.
-#[derive(Clone, Copy)]
-pub enum Laid {
-    Has(Places),
-    Wrong(usize),
-}
+// The kinds of the first lines, one of each.
+const HEADS: [LineKind; 7] = [
+    LineKind::Product,
+    LineKind::Version,
+    LineKind::Input,
+    LineKind::Size,
+    LineKind::Gamma,
+    LineKind::Features,
+    LineKind::Chroma,
+];
 
-fn run(s: &[u8], from: usize, kind: u8, most: usize) -> usize
+// How many lines from a place on are of a kind, one after the other; at most so many.
+fn run(s: &[u8], from: usize, kind: LineKind, most: usize) -> usize
     requires { (from ≤ 100) × (most ≤ 100) }
-    ensures { (result ≡ run kind most (counted (lines s.now)) from) × (result ≤ most) }
+    ensures { (result ≡ run (kind_number kind) most (counted (lines s.now)) from) × (result ≤ most) }
 {
-    let mut n = 0;
-    while n < most {
-        if panel_forms::is_line(text_lines::content(s, from + n), kind) {
-            n += 1;
-        } else {
-            return n;
-        }
-    }
-    n
+    (from..from + most)
+        .take_while(|&k| panel_forms::is_line(text_lines::content(s, k), kind))
+        .count()
 }
 
 fn placed(s: &[u8]) -> Places
     ensures { (result ≡ places_of (counted (lines s.now))) × (result.extensions ≤ 100) }
 {
-    let established = 7 + run(s, 7, 7, 6);
+    let established = 7 + run(s, 7, LineKind::White, 6);
     let pairs = established + 1;
-    let timings = pairs + run(s, pairs, 9, 26);
-    let entries = timings + run(s, timings, 10, 4);
+    let timings = pairs + run(s, pairs, LineKind::Standard, 26);
+    let entries = timings + run(s, timings, LineKind::Detailed, 4);
     Places {
         established,
         pairs,
         timings,
         entries,
-        extensions: entries + run(s, entries, 11, 3),
+        extensions: entries + run(s, entries, LineKind::Descriptor, 3),
     }
 }
 
-fn heads(s: &[u8]) -> usize
-    ensures { result ≡ heads 7 (counted (lines s.now)) 0 }
+// Whether the line at k is of the kind that is due there; or else its place.
+fn due(s: &[u8], k: usize, kind: LineKind) -> Result<(), usize>
+    ensures { result ≡ due (kind_number kind) (counted (lines s.now)) k }
 {
-    let mut kind: u8 = 0;
-    while kind < 7 {
-        if panel_forms::is_line(text_lines::content(s, kind as usize), kind) {
-            kind += 1;
-        } else {
-            return kind as usize;
-        }
+    if panel_forms::is_line(text_lines::content(s, k), kind) {
+        Ok(())
+    } else {
+        Err(k)
     }
-    7
 }
 
-fn wrong_at(s: &[u8], p: Places) -> usize
-    requires { p.extensions ≤ 100 }
-    ensures { result ≡ wrong_at (counted (lines s.now)) p }
+// Whether the first lines are due; or else the place of the first that is not.
+fn heads(s: &[u8]) -> Result<(), usize>
+    ensures { result ≡ heads_due (counted (lines s.now)) }
 {
-    let n = heads(s);
-    if n < 7 {
-        return n;
+    for k in 0..7 {
+        due(s, k, HEADS[k])?;
     }
-    if panel_forms::is_line(text_lines::content(s, p.established), 8) {
-        if panel_forms::is_line(text_lines::content(s, p.extensions), 12) {
-            return p.extensions + 1;
-        }
-        return p.extensions;
-    }
-    p.established
+    Ok(())
 }
 
-pub fn layout(s: &[u8]) -> Laid
+// Where the lines stand; or the place of the first line that is wrong.
+pub fn layout(s: &[u8]) -> Result<Places, usize>
     ensures { result ≡ layout_of (counted (lines s.now)) }
 {
+    heads(s)?;
     let p = placed(s);
-    let wrong = wrong_at(s, p);
+    due(s, p.established, LineKind::Established)?;
+    due(s, p.extensions, LineKind::Extensions)?;
     let end = p.extensions + 1;
-    if wrong == end {
-        if text_lines::content(s, end).len() == 0 {
-            return Laid::Has(p);
-        }
+    if text_lines::content(s, end).is_empty() {
+        Ok(p)
+    } else {
+        Err(end)
     }
-    Laid::Wrong(wrong)
 }
