@@ -1,13 +1,14 @@
 -- Every line is shorter than a page.
 use Rattle.std.specs.Prelude.{ℕ, ◌≤◌, ◌≡◌, List, [], ◌∷◌, length, take, drop, None, Option, Some}
 use Rattle.std.proofs.Common.{arith, length-append, length-take, take_all}
-use Rattle.steps.specs.declared.Span.{Span}
-use Rattle.page.specs.Page.{page, ◌▷◌}
+use Rattle.page.specs.declared.Page.{Page}
+use Rattle.page.specs.Page.{◌▷◌}
 use Rattle.page.specs.Words.{text, hex_of2, flat, each}
 use Rattle.page.specs.Short.{field_length, byte_length, first_length}
 use Rattle.page.specs.Meaning.{whole, only}
 use Rattle.naming.specs.Name.{name_of, shown}
 use Rattle.naming.specs.Listed.{SoundName, sound_name}
+use Rattle.steps.specs.declared.Span.{Span}
 use Rattle.name_lines.specs.Lines.{run, name_line, shown_line, answer}
 
 run_length : (name : List ℕ) → length name ≤ 13 → length (run name) ≤ 27

@@ -12,7 +12,7 @@ use Rattle.standard_record.specs.Lists.{WhitePoints}
 use Rattle.standard_record.specs.Lists.{StandardTimings}
 use Rattle.standard_record.specs.Lists.{DetailedTimings}
 use Rattle.standard_record.specs.declared.Held.{Held}
-use Rattle.standard_record.specs.declared.Descriptors.{Descriptors}
+use Rattle.standard_record.specs.Lists.{Descriptors}
 use Rattle.panel_entries.specs.Entries.{point_of, pair_of, held_timing_of, kept_in, kept_places, held_of}
 
 -- of the lines that count those from a place on and before another

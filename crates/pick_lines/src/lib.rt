@@ -8,6 +8,7 @@ ghost use Rattle.picking.specs.Score.{choice};
 ghost use Rattle.pick_lines.specs.Asked.{is_digit, number_from, asked_in, Bounded, Inside};
 ghost use Rattle.pick_lines.specs.Lines as lines;
 
+use page::Page;
 use picking::Limits;
 use standard_record::{DetailedTimings, StandardReading};
 use timing::{Lines, Pixels};
@@ -86,17 +87,15 @@ fn choice_lines(page: &mut Page, limits: Limits, list: DetailedTimings)
 {
     match picking::choose(limits, list) {
         Err(number) => {
-            let mut n = page::bytes(out, 0, b"refuse");
-            n = page::field8(out, n, number);
-            page::newline(out, n)
+            page.bytes(b"refuse");
+            page.field(number);
+            page.newline();
         }
         Ok(i) => {
-            let items = list.items;
-            let h = items[i];
-            let mut n = page::bytes(out, 0, b"pick");
-            n = page::field(out, n, i);
-            n = page::newline(out, n);
-            standard_slot_lines::detailed_line(out, n, h)
+            page.bytes(b"pick");
+            page.field(i);
+            page.newline();
+            standard_slot_lines::detailed_line(page, list.items[i]);
         }
     }
 }

@@ -3,7 +3,7 @@
 #![tactic(auto)]
 
 use page::Page;
-use standard_record::{StandardRecord, Verdict};
+use standard_record::StandardRecord;
 use std::io;
 use steps::Refusal;
 
