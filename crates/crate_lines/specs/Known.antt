@@ -1,9 +1,8 @@
 -- Worked lines: antt computes each definition to the text.
-use Rattle.std.specs.Prelude.{◌≡◌, refl}
+use Rattle.std.specs.Prelude.{◌≡◌, refl, Some, None}
 use Rattle.std.specs.Float.{binary32}
 use Rattle.std.specs.Float.Ieee.{of_bits, to_bits}
 use Rattle.page.specs.Words.{text, decimal_in, field32, field16, field8, hex_digit, hex_of2, hex_of4, hex_of8, float, flat}
-use Rattle.crate_record.specs.declared.MaxSize.TheVariants as Size
 use Rattle.shared_lines.specs.Lines.{product_numbers}
 use Rattle.crate_lines.specs.Lines.{product_line, size_line, standard_line}
 
@@ -16,11 +15,11 @@ product : product_line (record {
 unfolding product_line product_numbers flat field8 field16 field32 decimal_in
 product = refl
 
-size : size_line (Size.Some (record { width = of_bits binary32 0x4200_0000; height = of_bits binary32 0x4190_0000 })) ≡ text "size 42000000 41900000\n"
+size : size_line (Some (record { width = of_bits binary32 0x4200_0000; height = of_bits binary32 0x4190_0000 })) ≡ text "size 42000000 41900000\n"
 unfolding size_line flat float hex_of8 hex_of4 hex_of2 hex_digit of_bits to_bits
 size = refl
 
-no_size : size_line Size.None ≡ text "size none\n"
+no_size : size_line None ≡ text "size none\n"
 unfolding size_line
 no_size = refl
 

@@ -1,16 +1,12 @@
 -- The listing of the crate reading: what each line is, byte for byte, and their order.
-use Rattle.std.specs.Prelude.{ℕ, min, List, [], ◌∷◌, take}
+use Rattle.std.specs.Prelude.{ℕ, min, List, [], ◌∷◌, take, Float, Option, Some, None, Result, Ok, Err}
 use Rattle.page.specs.Words.{text, newline, field, field16, field8, float, flat, each}
 use Rattle.shared_lines.specs.Lines.{product_numbers, version_line, input_flags, digital_line, dpms_line, established_line, extensions_line, refuse_line}
-use Rattle.steps.specs.declared.Cursor.{Cursor}
-use Rattle.steps.specs.declared.End.{End}
-use Rattle.steps.specs.declared.End.TheVariants.{At, Refused}
+use Rattle.steps.specs.declared.Refusal.{Refusal}
 use Rattle.crate_record.specs.declared.ProductInformation.{ProductInformation}
 use Rattle.crate_record.specs.declared.VideoInput.{VideoInput}
 use Rattle.crate_record.specs.declared.VideoInput.TheVariants.{Analog, Digital}
-use Rattle.crate_record.specs.declared.MaxSize.{MaxSize}
-use Rattle.crate_record.specs.declared.MaxSize.TheVariants as Size
-use Rattle.crate_record.specs.declared.Gamma.{Gamma}
+use Rattle.crate_record.specs.declared.ImageSize.{ImageSize}
 use Rattle.crate_record.specs.declared.DisplayType.{DisplayType}
 use Rattle.crate_record.specs.declared.DisplayType.TheVariants.{Monochrome, RGBColor, OtherColor, Undefined}
 use Rattle.crate_record.specs.declared.DPMSFeatures.{DPMSFeatures}
@@ -38,13 +34,13 @@ input_line (Analog level setup sync) = flat (
     input_flags setup sync.serrated sync.green sync.composite sync.separate ∷ [])
 input_line (Digital dfp) = digital_line dfp
 
-unfoldable pub size_line : MaxSize → List ℕ
-size_line Size.None = text "size none\n"
-size_line (Size.Some s) = flat (text "size" ∷ float s.width ∷ float s.height ∷ newline ∷ [])
+unfoldable pub size_line : Option ImageSize → List ℕ
+size_line None = text "size none\n"
+size_line (Some s) = flat (text "size" ∷ float s.width ∷ float s.height ∷ newline ∷ [])
 
-unfoldable pub gamma_line : Gamma → List ℕ
-gamma_line Gamma.None = text "gamma none\n"
-gamma_line (Gamma.Some g) = flat (text "gamma" ∷ float g ∷ newline ∷ [])
+unfoldable pub gamma_line : Option Float → List ℕ
+gamma_line None = text "gamma none\n"
+gamma_line (Some g) = flat (text "gamma" ∷ float g ∷ newline ∷ [])
 
 -- the source's order
 abbrev pub kind : DisplayType → ℕ
@@ -85,8 +81,8 @@ standard_lines l = each standard_line (take (min l.len 26) l.items)
 
 -- ---- the whole
 
-unfoldable pub accept_line : Cursor → List ℕ
-accept_line c = flat (text "accept" ∷ field c.at ∷ newline ∷ [])
+unfoldable pub accept_line : ℕ → List ℕ
+accept_line n = flat (text "accept" ∷ field n ∷ newline ∷ [])
 
 -- of the input s
 unfoldable pub edid_lines : List ℕ → EDID → List ℕ
@@ -102,9 +98,9 @@ edid_lines s e = flat (
     descriptor_lines s e.descriptors ∷
     extensions_line e.extensions ∷ [])
 
-unfoldable pub ended_lines : List ℕ → EDID → End → List ℕ
-ended_lines s e (At c) = flat (accept_line c ∷ edid_lines s e ∷ [])
-ended_lines s e (Refused f) = refuse_line f
+unfoldable pub ended_lines : List ℕ → EDID → Result ℕ Refusal → List ℕ
+ended_lines s e (Ok n) = flat (accept_line n ∷ edid_lines s e ∷ [])
+ended_lines s e (Err f) = refuse_line f
 
 unfoldable pub listing_of : List ℕ → Reading → List ℕ
 listing_of s r = ended_lines s r.edid r.end

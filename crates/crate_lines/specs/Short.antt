@@ -1,5 +1,5 @@
 -- The longest listing is below a page, so what is written of a page is the listing, whole.
-use Rattle.std.specs.Prelude.{ℕ, ◌≤◌, List, ◌≡◌, length, take, drop}
+use Rattle.std.specs.Prelude.{ℕ, ◌≤◌, List, ◌≡◌, length, take, drop, Float, Option, Some, None, Result, Ok, Err}
 use Rattle.std.proofs.Common.{arith, length-append}
 use Rattle.page.specs.declared.Page.{Page}
 use Rattle.page.specs.Page.{◌▷◌}
@@ -7,15 +7,11 @@ use Rattle.page.specs.Words.{flat}
 use Rattle.page.specs.Short.{field_length, field16_length, field8_length, float_length, first_length}
 use Rattle.shared_lines.specs.Short.{numbers_length, version_length, flags_length, digital_length, dpms_length, established_length, extensions_length, refuse_length}
 use Rattle.page.specs.Meaning.{whole, only}
-use Rattle.steps.specs.declared.Cursor.{Cursor}
-use Rattle.steps.specs.declared.End.{End}
-use Rattle.steps.specs.declared.End.TheVariants.{At, Refused}
+use Rattle.steps.specs.declared.Refusal.{Refusal}
 use Rattle.crate_record.specs.declared.ProductInformation.{ProductInformation}
 use Rattle.crate_record.specs.declared.VideoInput.{VideoInput}
 use Rattle.crate_record.specs.declared.VideoInput.TheVariants.{Analog, Digital}
-use Rattle.crate_record.specs.declared.MaxSize.{MaxSize}
-use Rattle.crate_record.specs.declared.MaxSize.TheVariants as Size
-use Rattle.crate_record.specs.declared.Gamma.{Gamma}
+use Rattle.crate_record.specs.declared.ImageSize.{ImageSize}
 use Rattle.crate_record.specs.declared.DPMSFeatures.{DPMSFeatures}
 use Rattle.crate_record.specs.declared.DisplayParameters.{DisplayParameters}
 use Rattle.crate_record.specs.declared.Chromaticities.{Chromaticities}
@@ -52,15 +48,15 @@ input_length (Analog level setup sync) =
     ))
 input_length (Digital dfp) = omega (arith, digital_length dfp)
 
-size_length : (t : MaxSize) → length (size_line t) ≤ 23
+size_length : (t : Option ImageSize) → length (size_line t) ≤ 23
 unfolding size_line flat
-size_length Size.None = omega arith
-size_length (Size.Some s) = simp length-append (omega (arith, float_length s.width, float_length s.height))
+size_length None = omega arith
+size_length (Some s) = simp length-append (omega (arith, float_length s.width, float_length s.height))
 
-gamma_length : (t : Gamma) → length (gamma_line t) ≤ 15
+gamma_length : (t : Option Float) → length (gamma_line t) ≤ 15
 unfolding gamma_line flat
-gamma_length Gamma.None = omega arith
-gamma_length (Gamma.Some g) = simp length-append (omega (arith, float_length g))
+gamma_length None = omega arith
+gamma_length (Some g) = simp length-append (omega (arith, float_length g))
 
 features_length : (f : DPMSFeatures) → length (features_line f) ≤ 21
 unfolding features_line
@@ -105,9 +101,9 @@ standard_lengths : (l : StandardTimings) → length (standard_lines l) ≤ 780
 unfolding standard_lines
 standard_lengths l = first_length standard_line 30 26 standard_length l.len l.items
 
-accept_length : (c : Cursor) → length (accept_line c) ≤ 28
+accept_length : (n : ℕ) → length (accept_line n) ≤ 28
 unfolding accept_line flat
-accept_length c = simp length-append (omega (arith, field_length c.at))
+accept_length n = simp length-append (omega (arith, field_length n))
 
 edid_length : (s : List ℕ) (e : EDID) → length (edid_lines s e) ≤ 2067
 unfolding edid_lines flat
@@ -127,10 +123,10 @@ edid_length s e =
       extensions_length e.extensions,
     ))
 
-ended_length : (s : List ℕ) (e : EDID) (t : End) → length (ended_lines s e t) ≤ 2095
+ended_length : (s : List ℕ) (e : EDID) (t : Result ℕ Refusal) → length (ended_lines s e t) ≤ 2095
 unfolding ended_lines flat
-ended_length s e (At c) = simp length-append (omega (arith, accept_length c, edid_length s e))
-ended_length s e (Refused f) = omega (arith, refuse_length f)
+ended_length s e (Ok n) = simp length-append (omega (arith, accept_length n, edid_length s e))
+ended_length s e (Err f) = omega (arith, refuse_length f)
 
 -- of every reading, whatever its record holds
 pub short : (s : List ℕ) (t : Reading) → length (listing_of s t) ≤ 2095

@@ -6,12 +6,12 @@ ghost use Rattle.page.specs.Page.{◌▷◌};
 ghost use Rattle.crate_lines.specs.Lines as lines;
 
 use crate_record::{
-    Chromaticities, DPMSFeatures, DisplayParameters, DisplayType, EDID, Gamma, MaxSize,
+    Chromaticities, DPMSFeatures, DisplayParameters, DisplayType, EDID, ImageSize,
     ProductInformation, Reading, StandardTiming, StandardTimings, VideoInput, WhitePoint,
     WhitePoints,
 };
 use page::Page;
-use steps::{Cursor, End};
+use steps::Refusal;
 
 #[tactic(auto, using(page::specs::Laws::appends), unfolding(crate::specs::Lines::product_line))]
 fn product_line(page: &mut Page, p: ProductInformation)
@@ -49,12 +49,12 @@ fn input_line(page: &mut Page, t: VideoInput)
 }
 
 #[tactic(auto, using(page::specs::Laws::appends), unfolding(crate::specs::Lines::size_line))]
-fn size_line(page: &mut Page, t: MaxSize)
+fn size_line(page: &mut Page, t: Option<ImageSize>)
     ensures { page.new ≡ page.old ▷ lines.size_line t }
 {
     match t {
-        MaxSize::None => page.bytes(b"size none\n"),
-        MaxSize::Some(s) => {
+        None => page.bytes(b"size none\n"),
+        Some(s) => {
             page.bytes(b"size");
             page.float(s.width);
             page.float(s.height);
@@ -64,12 +64,12 @@ fn size_line(page: &mut Page, t: MaxSize)
 }
 
 #[tactic(auto, using(page::specs::Laws::appends), unfolding(crate::specs::Lines::gamma_line))]
-fn gamma_line(page: &mut Page, t: Gamma)
+fn gamma_line(page: &mut Page, t: Option<f32>)
     ensures { page.new ≡ page.old ▷ lines.gamma_line t }
 {
     match t {
-        Gamma::None => page.bytes(b"gamma none\n"),
-        Gamma::Some(g) => {
+        None => page.bytes(b"gamma none\n"),
+        Some(g) => {
             page.bytes(b"gamma");
             page.float(g);
             page.newline();
@@ -177,11 +177,11 @@ fn standard_lines(page: &mut Page, l: StandardTimings)
 // ---- the whole
 
 #[tactic(auto, using(page::specs::Laws::appends), unfolding(crate::specs::Lines::accept_line))]
-fn accept_line(page: &mut Page, c: Cursor)
-    ensures { page.new ≡ page.old ▷ lines.accept_line c }
+fn accept_line(page: &mut Page, n: usize)
+    ensures { page.new ≡ page.old ▷ lines.accept_line n }
 {
     page.bytes(b"accept");
-    page.field(c.at);
+    page.field(n);
     page.newline();
 }
 
@@ -201,15 +201,15 @@ fn edid_lines(page: &mut Page, s: &[u8], e: EDID)
 }
 
 #[tactic(auto, using(page::specs::Laws::appends), unfolding(crate::specs::Lines::ended_lines))]
-fn ended_lines(page: &mut Page, s: &[u8], e: EDID, end: End)
+fn ended_lines(page: &mut Page, s: &[u8], e: EDID, end: Result<usize, Refusal>)
     ensures { page.new ≡ page.old ▷ lines.ended_lines s.now e end }
 {
     match end {
-        End::At(c) => {
-            accept_line(page, c);
+        Ok(n) => {
+            accept_line(page, n);
             edid_lines(page, s, e);
         }
-        End::Refused(f) => shared_lines::refuse_line(page, f),
+        Err(f) => shared_lines::refuse_line(page, f),
     }
 }
 

@@ -12,7 +12,6 @@ use Rattle.crate_record.specs.declared.SecondaryTiming.{SecondaryTiming}
 use Rattle.crate_record.specs.declared.SecondaryTiming.TheVariants as Secondary
 use Rattle.crate_record.specs.declared.MonitorDescriptor.{MonitorDescriptor}
 use Rattle.crate_record.specs.declared.MonitorDescriptor.TheVariants.{SerialNumber, OtherString, RangeLimits, MonitorName, Undefined, ManufacturerDefined}
-use Rattle.crate_record.specs.declared.Held.{Held}
 use Rattle.crate_record.specs.Lists.{MonitorDescriptors}
 
 -- ---- detailed timings
@@ -53,9 +52,5 @@ descriptor_line s (MonitorName d) = text_line (text "name") d
 descriptor_line s (Undefined tag d) = raw_line (text "undefined") s tag d
 descriptor_line s (ManufacturerDefined tag d) = raw_line (text "maker") s tag d
 
--- of an element of the list
-unfoldable pub held_line : List ℕ → Held → List ℕ
-held_line s h = descriptor_line s h.descriptor
-
 unfoldable pub descriptor_lines : List ℕ → MonitorDescriptors → List ℕ
-descriptor_lines s l = each (held_line s) (take (min l.len 3) l.items)
+descriptor_lines s l = each (descriptor_line s) (take (min l.len 3) l.items)

@@ -14,9 +14,8 @@ use Rattle.crate_record.specs.declared.SecondaryTiming.{SecondaryTiming}
 use Rattle.crate_record.specs.declared.SecondaryTiming.TheVariants as Secondary
 use Rattle.crate_record.specs.declared.MonitorDescriptor.{MonitorDescriptor}
 use Rattle.crate_record.specs.declared.MonitorDescriptor.TheVariants.{SerialNumber, OtherString, RangeLimits, MonitorName, Undefined, ManufacturerDefined}
-use Rattle.crate_record.specs.declared.Held.{Held}
 use Rattle.crate_record.specs.Lists.{MonitorDescriptors}
-use Rattle.crate_slot_lines.specs.Lines.{sync, detailed_line, detailed_lines, secondary, range_line, descriptor_line, held_line, descriptor_lines}
+use Rattle.crate_slot_lines.specs.Lines.{sync, detailed_line, detailed_lines, secondary, range_line, descriptor_line, descriptor_lines}
 
 sync_length : (t : SyncType) → length (sync t) ≤ 6
 unfolding sync flat
@@ -64,10 +63,6 @@ descriptor_length s (MonitorName d) = omega (arith, text_length_lem (text "name"
 descriptor_length s (Undefined tag d) = omega (arith, run_length (text "undefined") s tag d)
 descriptor_length s (ManufacturerDefined tag d) = omega (arith, run_length (text "maker") s tag d)
 
-held_length : (s : List ℕ) (h : Held) → length (held_line s h) ≤ 98
-unfolding held_line
-held_length s h = descriptor_length s h.descriptor
-
 pub descriptor_lengths : (s : List ℕ) (l : MonitorDescriptors) → length (descriptor_lines s l) ≤ 294
 unfolding descriptor_lines
-descriptor_lengths s l = first_length (held_line s) 98 3 (held_length s) l.len l.items
+descriptor_lengths s l = first_length (descriptor_line s) 98 3 (descriptor_length s) l.len l.items

@@ -6,7 +6,7 @@ ghost use Rattle.page.specs.Page.{◌▷◌};
 ghost use Rattle.crate_slot_lines.specs.Lines as lines;
 
 use crate_record::{
-    DetailedTiming, DetailedTimings, Held, Limits, MonitorDescriptor, MonitorDescriptors,
+    DetailedTiming, DetailedTimings, Limits, MonitorDescriptor, MonitorDescriptors,
     SecondaryTiming, SyncLine, SyncType,
 };
 use page::Page;
@@ -123,18 +123,11 @@ fn descriptor_line(page: &mut Page, s: &[u8], t: MonitorDescriptor)
     }
 }
 
-#[tactic(auto, unfolding(crate::specs::Lines::held_line))]
-fn held_line(page: &mut Page, s: &[u8], h: Held)
-    ensures { page.new ≡ page.old ▷ lines.held_line s.now h }
-{
-    descriptor_line(page, s, h.descriptor);
-}
-
 #[tactic(auto, using(page::specs::Laws::appends), unfolding(page::specs::Words::each, crate::specs::Lines::descriptor_lines))]
 pub fn descriptor_lines(page: &mut Page, s: &[u8], l: MonitorDescriptors)
     ensures { page.new ≡ page.old ▷ lines.descriptor_lines s.now l }
 {
     for x in &l.items[..l.len.min(3)] {
-        held_line(page, s, *x);
+        descriptor_line(page, s, *x);
     }
 }
