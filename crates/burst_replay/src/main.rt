@@ -8,7 +8,6 @@ use frames::Came;
 use page::Page;
 use std::io;
 use std::io::{Read, Write};
-use steps::Cursor;
 
 fn main(rt: HostRuntime) -> io::Result<()> {
     let mut space = [0u8; 65536];
@@ -77,16 +76,14 @@ fn answer_burst<R: Read, W: Write>(
 // The line of what is told after a burst.
 fn report_line(page: &mut Page, report: Report) {
     match report {
-        Report::Waiting => page.bytes(b"waiting\n"),
-        Report::At(c) => accept_line(page, c),
-        Report::Refused(f) => shared_lines::refuse_line(page, f),
+        None => page.bytes(b"waiting\n"),
+        Some(Ok(n)) => {
+            page.bytes(b"accept");
+            page.field(n);
+            page.newline();
+        }
+        Some(Err(f)) => shared_lines::refuse_line(page, f),
     }
-}
-
-fn accept_line(page: &mut Page, c: Cursor) {
-    page.bytes(b"accept");
-    page.field(c.at);
-    page.newline();
 }
 
 // Writes the listing of the final answer.
