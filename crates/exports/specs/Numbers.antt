@@ -1,14 +1,15 @@
 -- What of an outcome is a number, and what numbers there are.
-use Rattle.std.specs.Prelude.{ℕ, ◌≤◌, ◌≡◌, refl, List}
+use Rattle.std.specs.Prelude.{ℕ, ◌≤◌, ◌≡◌, refl, List, Some, None, Result, Ok, Err}
 use Rattle.std.proofs.Common.{ap, arith}
 use Rattle.steps.specs.Steps.{Outcome, got, refused}
+use Rattle.steps.specs.Leaves.{ended}
 use Rattle.steps.specs.Answers.{taken, numbered}
+use Rattle.steps.specs.declared.Refusal.{Refusal}
 use Rattle.crate_record.specs.declared.EDID.{EDID}
 use Rattle.crate_reading.specs.Reading.{reading, answer}
 use Rattle.crate_reading.specs.Sizes.{ends_reading}
 use Rattle.crate_end.specs.Ends.{end_of}
-use Rattle.bursts.specs.declared.Report.{Report}
-use Rattle.bursts.specs.declared.Report.TheVariants.{Waiting, At, Refused}
+use Rattle.bursts.specs.Bursts.{Report}
 
 -- the refusal's number; 0 where there is none
 abbrev pub number_of : {A : Type 0} → Outcome A → ℕ
@@ -17,11 +18,15 @@ number_of (refused k n) = k
 
 -- what is told after a burst, as a number; nothing is 257, which no byte is
 abbrev pub number_told : Report → ℕ
-number_told Waiting = 257
-number_told (At c) = 0
-number_told (Refused f) = f.number
+number_told None = 257
+number_told (Some (Ok n)) = 0
+number_told (Some (Err f)) = f.number
 
 -- ---- for the proofs of the code: the end alone says the number and the bytes taken
+
+pub number_told_of : (e : Result ℕ Refusal) → number_of (ended {A = Unit} tt e) ≡ number_told (Some e)
+number_told_of (Ok n) = refl
+number_told_of (Err f) = refl
 
 pub number_of_end : {A : Type 0} (o : Outcome A) → number_of (end_of o) ≡ number_of o
 number_of_end (got a n) = refl

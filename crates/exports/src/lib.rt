@@ -13,27 +13,26 @@ ghost use Rattle.picking.specs.Score.{choice};
 ghost use Rattle.exports.specs.Numbers.{number_of, number_told};
 ghost use Rattle.exports.specs.Pick.{shown, pick_of};
 
-use bursts::Report;
 use picking::Limits;
 use standard_record::DetailedTimings;
-use steps::End;
+use steps::Refusal;
 use timing::{Lines, Pixels};
 
-fn number_of(end: End) -> u32
+fn number_of(end: Result<usize, Refusal>) -> u32
     ensures { result ≡ number_of (ended {A = Unit} tt end) }
 {
     match end {
-        End::At(_) => 0,
-        End::Refused(f) => f.number as u32,
+        Ok(_) => 0,
+        Err(f) => u32::from(f.number),
     }
 }
 
-fn taken_by(end: End) -> usize
+fn taken_by(end: Result<usize, Refusal>) -> usize
     ensures { result ≡ taken (ended {A = Unit} tt end) }
 {
     match end {
-        End::At(c) => c.at,
-        End::Refused(f) => f.at,
+        Ok(n) => n,
+        Err(f) => f.at,
     }
 }
 
@@ -68,9 +67,8 @@ pub fn edid_burst(state: &mut [u8; 146], burst: &[u8]) -> u32
         × (result ≡ number_told (told (stage state.new))) }
 {
     match bursts::take(state, burst) {
-        Report::Waiting => 257,
-        Report::At(_) => 0,
-        Report::Refused(f) => f.number as u32,
+        None => 257,
+        Some(end) => number_of(end),
     }
 }
 
@@ -96,16 +94,10 @@ fn show(limits: Limits, list: DetailedTimings, numbers: &mut [u32]) -> u32
     ensures { (result, numbers.new) ≡ shown list numbers.old (choice limits (listed list)) }
 {
     match picking::choose(limits, list) {
-        Err(number) => number as u32,
+        Err(number) => u32::from(number),
         Ok(i) => {
-            let items = list.items;
-            let h = items[i];
-            let its = timing_numbers::numbers_of(h.timing);
-            let mut k = 0;
-            while k < 14 {
-                numbers[k] = its[k];
-                k += 1;
-            }
+            let timing = list.items[i].timing;
+            numbers[..14].copy_from_slice(&timing_numbers::numbers_of(timing));
             0
         }
     }
@@ -126,9 +118,8 @@ pub fn edid_pick(block: &[u8], clock: u32, across: u16, down: u16, numbers: &mut
         down: Lines(down),
     };
     let reading = standard_reading::read_standard(block);
-    let end = reading.end;
-    match end {
-        Err(f) => f.number as u32,
-        Ok(()) => show(limits, reading.edid.timings.detailed, numbers),
+    if let Err(f) = reading.end {
+        return u32::from(f.number);
     }
+    show(limits, reading.edid.timings.detailed, numbers)
 }

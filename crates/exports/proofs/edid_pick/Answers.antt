@@ -7,8 +7,8 @@ returns-then-numbers-lt14 c = rw (lt-ltb _ 14 c.if-numbers-lt14.true)
 
 pub returns-in-Err : goal.returns-in-Err
 returns-in-Err c =
-    rw (le-ltb _ 14 c.if-numbers-lt14.false, ← c.read_standard-reading.ensures, c.in-Err.is)
+    rw (le-ltb _ 14 c.if-numbers-lt14.false, ← c.read_standard-reading.ensures, c.in-Err.is, c.from.ensures)
 
-pub returns-in-Ok : goal.returns-in-Ok
-returns-in-Ok c =
-    rw (le-ltb _ 14 c.if-numbers-lt14.false, ← c.read_standard-reading.ensures, c.in-Ok.is) c.show.ensures
+pub returns : goal.returns
+returns c =
+    rw (le-ltb _ 14 c.if-numbers-lt14.false, ← c.read_standard-reading.ensures, c.in_default.is) c.show.ensures
