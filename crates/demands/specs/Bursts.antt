@@ -1,5 +1,5 @@
 -- Bursts, of the code's answers: what callers of the exported functions learn; and worked cases of what is told.
-use Rattle.std.specs.Prelude.{ℕ, ◌≡◌, refl, take, drop, set, replicate}
+use Rattle.std.specs.Prelude.{ℕ, ◌≡◌, refl, take, drop, set, replicate, Some, None, Ok, Err}
 use Rattle.std.proofs.Common.{sym, ap, ap₂, subst, ◌∙◌}
 use mathlib.Core.List.{List, [], ◌∷◌, ◌++◌, flatten}
 use Rattle.timing.specs.Axis.{back_porch, across_of, down_of}
@@ -16,9 +16,7 @@ use Rattle.crate_detailed.specs.Detailed.{fitted, axes, timed, detailed}
 use Rattle.crate_descriptors.specs.Descriptors.{spaces, closing, point_of, point, ended, second, points, white, string, raw, tagged, descriptor}
 use Rattle.tags.specs.Tags.{tag_of}
 use Rattle.crate_end.specs.Ends.{piece, pieces_from, went}
-use Rattle.bursts.specs.declared.Report.{Report}
-use Rattle.bursts.specs.declared.Report.TheVariants.{Waiting, At, Refused}
-use Rattle.bursts.specs.Bursts.{Standing, held, standing, report_of, told, fresh, grow, after}
+use Rattle.bursts.specs.Bursts.{Report, Standing, held, standing, report_of, told, fresh, grow, after}
 use Rattle.bursts.specs.Theorems.{Made, made_new, made_take}
 use Rattle.bursts.proofs.Theorems.{joined}
 use contract.Lifetimes.{Lfts}
@@ -109,15 +107,15 @@ cases =
     -- the header's first half is wrong: its last byte is awaited, and nothing that comes after it is of account
     record {
       bursts = (0 ∷ 0xff ∷ []) ∷ [] ∷ (0xff ∷ 0xfe ∷ []) ∷ specimen ∷ [];
-      reports = Waiting ∷ Waiting ∷ Refused (record { number = 2; at = 4 }) ∷ Refused (record { number = 2; at = 4 }) ∷ [];
+      reports = None ∷ None ∷ Some (Err (record { number = 2; at = 4 })) ∷ Some (Err (record { number = 2; at = 4 })) ∷ [];
     } ∷
     -- the specimen is accepted by its byte 126, and then another block comes
     record {
       bursts = take 126 specimen ∷ [] ∷ take 1 (drop 126 specimen) ∷ [] ∷ set specimen 0 1 ∷ [];
-      reports = Waiting ∷ Waiting ∷ At (record { at = 127 }) ∷ At (record { at = 127 }) ∷ At (record { at = 127 }) ∷ [];
+      reports = None ∷ None ∷ Some (Ok 127) ∷ Some (Ok 127) ∷ Some (Ok 127) ∷ [];
     } ∷
     -- the longest block, to its last byte
-    record { bursts = take 141 longest ∷ drop 141 longest ∷ []; reports = Waiting ∷ At (record { at = 142 }) ∷ [] } ∷
+    record { bursts = take 141 longest ∷ drop 141 longest ∷ []; reports = None ∷ Some (Ok 142) ∷ [] } ∷
     []
 
 pub cases_hold : Hold cases

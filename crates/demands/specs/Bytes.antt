@@ -1,6 +1,6 @@
 -- How many bytes an accepted input takes: the number that callers get, which transfers suffice, and which numbers occur, each with a block.
 use Prim.Native.Nat.{ℕ, zero, suc, ◌+◌, ◌*◌, ◌≤◌, ◌<◌}
-use Rattle.std.specs.Prelude.{◌≡◌, Bool, true, false, ◌||◌, eqb, take}
+use Rattle.std.specs.Prelude.{◌≡◌, Bool, true, false, ◌||◌, eqb, take, Ok}
 use Rattle.std.proofs.Math.Path.{refl}
 use Rattle.std.proofs.Common.{sym, ap, ◌∙◌, subst, arith, take-take}
 use mathlib.Core.List.{List, [], ◌∷◌, flatten}
@@ -10,7 +10,6 @@ use Rattle.timing.specs.Axis.{back_porch, across_of, down_of}
 use Rattle.steps.specs.Steps.{got, refused, run}
 use Rattle.steps.specs.Leaves.{byte, word, long, ended}
 use Rattle.steps.specs.Answers.{taken}
-use Rattle.steps.specs.declared.End.TheVariants.{At}
 use Rattle.crate_record.specs.declared.EDID.{EDID}
 use Rattle.crate_record.specs.declared.Reading.{Reading}
 use Rattle.crate_head.specs.Head.{header, maker, date, product, version, input, dpms, display, color, front}
@@ -37,7 +36,7 @@ use Rattle.demands.specs.Bursts.{Number, Taken, Calls, end_tells, end_taken}
 
 -- in Rattle, where `read` accepts
 pub read_exactly : (κs : Lfts 1) (block : Bor (List ℕ)) (r : Reading) (n : ℕ) → read.Learnt κs (block, tt) r (block, tt)
-    → r.end ≡ At (record { at = n }) → Exact block.now n
+    → r.end ≡ Ok n → Exact block.now n
 read_exactly κs block r n l e = exact_bytes block.now r.edid n (sym l.answer ∙ ap (ended r.edid) e)
 
 -- what the exported functions answer of the bytes s, by their contracts

@@ -1,5 +1,5 @@
 -- Every span of an accepted record lies inside the bytes taken; a text holds no 0x0a, and one stands behind it where it is shorter than 13.
-use Rattle.std.specs.Prelude.{ℕ, zero, suc, ◌+◌, ◌-◌, ◌≤◌, ◌<◌, ◌≡◌, Bool, true, false, cond, List, [], ◌∷◌, ◌++◌, eqb, ltb, get_or}
+use Rattle.std.specs.Prelude.{ℕ, zero, suc, ◌+◌, ◌-◌, ◌≤◌, ◌<◌, ◌≡◌, Bool, true, false, cond, List, [], ◌∷◌, ◌++◌, eqb, ltb, get_or, Option, Some, None}
 use Rattle.std.proofs.Common.{sym, ◌∙◌, ap, subst, arith, le_refl, eqb-true}
 use Rattle.std.proofs.lemmas.Bool.{eqb-false}
 use Rattle.steps.specs.Steps.{done, ◌>>=◌, got}
@@ -11,7 +11,7 @@ use Rattle.crate_text.specs.Text.{scan, padding, skip, span, text}
 use Rattle.crate_text.specs.Sizes.{takes_skip}
 use Rattle.crate_record.specs.Seen.{seen}
 use Rattle.crate_record.specs.declared.EDID.{EDID}
-use Rattle.crate_record.specs.declared.Held.{Held}
+use Rattle.crate_record.specs.declared.DetailedTiming.{DetailedTiming}
 use Rattle.crate_record.specs.declared.SecondaryTiming.{SecondaryTiming}
 use Rattle.crate_record.specs.declared.SecondaryTiming.TheVariants as Second
 use Rattle.crate_record.specs.declared.MonitorDescriptor.{MonitorDescriptor}
@@ -22,8 +22,6 @@ use Rattle.crate_timings.specs.Pairs.{pairs}
 use Rattle.tags.specs.Tags.{tag_of}
 use Rattle.tags.specs.declared.Tag.{Tag}
 use Rattle.crate_detailed.specs.Detailed.{detailed}
-use Rattle.crate_detailed.specs.declared.MaybeTiming.{MaybeTiming}
-use Rattle.crate_detailed.specs.declared.MaybeTiming.TheVariants as Maybe
 use Rattle.crate_descriptors.specs.Descriptors.{closing, points, white, none, gtf_of, gtf, other, secondary, range, string_of, string, raw_of, raw, by_tag, tagged, descriptor}
 use Rattle.crate_descriptors.specs.declared.Points.TheVariants.{One, Two}
 use Rattle.crate_descriptors.specs.declared.Slot.{Slot}
@@ -47,9 +45,9 @@ Sound s (RangeLimits l t) n = SoundSecond t n
 Sound s (Undefined k d) n = Inside d n
 Sound s (ManufacturerDefined k d) n = Inside d n
 
-abbrev pub Sounds : List ℕ → List Held → ℕ → Type 0
+abbrev pub Sounds : List ℕ → List MonitorDescriptor → ℕ → Type 0
 Sounds s [] n = Unit
-Sounds s (h ∷ hs) n = Sound s h.descriptor n × Sounds s hs n
+Sounds s (h ∷ hs) n = Sound s h n × Sounds s hs n
 
 -- further on it still holds
 text_later : (s : List ℕ) (t : Span) (n m : ℕ) → n ≤ m → Text s t n → Text s t m
@@ -71,11 +69,11 @@ sound_later s (RangeLimits l (Second.Other k d)) n m h e = omega arith
 sound_later s (Undefined k d) n m h e = omega arith
 sound_later s (ManufacturerDefined k d) n m h e = omega arith
 
-sounds_later : (s : List ℕ) (hs : List Held) (n m : ℕ) → n ≤ m → Sounds s hs n → Sounds s hs m
+sounds_later : (s : List ℕ) (hs : List MonitorDescriptor) (n m : ℕ) → n ≤ m → Sounds s hs n → Sounds s hs m
 sounds_later s [] n m h e = tt
-sounds_later s (x ∷ hs) n m h e = (sound_later s x.descriptor n m h e.0, sounds_later s hs n m h e.1)
+sounds_later s (x ∷ hs) n m h e = (sound_later s x n m h e.0, sounds_later s hs n m h e.1)
 
-sounds_append : (s : List ℕ) (a b : List Held) (n : ℕ) → Sounds s a n → Sounds s b n → Sounds s (a ++ b) n
+sounds_append : (s : List ℕ) (a b : List MonitorDescriptor) (n : ℕ) → Sounds s a n → Sounds s b n → Sounds s (a ++ b) n
 sounds_append s [] b n e h = h
 sounds_append s (x ∷ a) b n e h = (e.0, sounds_append s a b n e.1 h)
 
@@ -228,9 +226,9 @@ meets_said s (White (Two p p')) n q = tt
 meets_said s Six n q =
     meets_after s (SoundSaid s) (pairs 6) _ n (λ xs m h. meets_after s (SoundSaid s) (closing 0) _ m (λ _ k i. tt))
 
-meets_slot : (s : List ℕ) (t : MaybeTiming) (at : ℕ) → Meets s (SoundSaid s) (said_later t) at
-meets_slot s Maybe.None at = meets_then s (SoundSlot s) (SoundSaid s) descriptor said_by at (meets_descriptor s at) (λ x n q. meets_said s x n q)
-meets_slot s (Maybe.Some t) at = tt
+meets_slot : (s : List ℕ) (t : Option DetailedTiming) (at : ℕ) → Meets s (SoundSaid s) (said_later t) at
+meets_slot s None at = meets_then s (SoundSlot s) (SoundSaid s) descriptor said_by at (meets_descriptor s at) (λ x n q. meets_said s x n q)
+meets_slot s (Some t) at = tt
 
 -- with the place no earlier than `at`
 abbrev SoundAll : List ℕ → ℕ → List Said → ℕ → Type 0
@@ -245,9 +243,9 @@ meets_later s (suc k) at =
     (λ x m q. meets_then s (SoundAll s m) (SoundAll s at) (later k) _ m (meets_later s k m)
     (λ xs j r. (sounds_append s (lists x).descriptors (together xs).descriptors j (sounds_later s (lists x).descriptors m j r.1 q.0) r.0, omega arith))))
 
-meets_first : (s : List ℕ) (t : MaybeTiming) (at : ℕ) → Meets s (λ xs n. Sounds s (together xs).descriptors n) (said_first t >>= (λ x. later 3 >>= (λ xs. done (x ∷ xs)))) at
-meets_first s Maybe.None at = tt
-meets_first s (Maybe.Some t) at = meets_then s (SoundAll s at) _ (later 3) _ at (meets_later s 3 at) (λ xs n q. q.0)
+meets_first : (s : List ℕ) (t : Option DetailedTiming) (at : ℕ) → Meets s (λ xs n. Sounds s (together xs).descriptors n) (said_first t >>= (λ x. later 3 >>= (λ xs. done (x ∷ xs)))) at
+meets_first s None at = tt
+meets_first s (Some t) at = meets_then s (SoundAll s at) _ (later 3) _ at (meets_later s 3 at) (λ xs n q. q.0)
 
 meets_slots : (s : List ℕ) (at : ℕ) → Meets s (λ xs n. Sounds s (together xs).descriptors n) slots at
 unfolding slots

@@ -1,5 +1,5 @@
 -- The specimen, and what the crate reading makes of it.
-use Rattle.std.specs.Prelude.{ℕ, true, false, List, [], ◌∷◌}
+use Rattle.std.specs.Prelude.{ℕ, true, false, List, [], ◌∷◌, Some}
 use Rattle.std.specs.Float.{binary32}
 use Rattle.std.specs.Float.Ieee.{of_bits}
 use Rattle.timing.specs.Axis.{pixels, lines}
@@ -11,12 +11,10 @@ use Rattle.crate_record.specs.declared.StandardTiming.{StandardTiming}
 use Rattle.crate_record.specs.declared.DetailedTiming.{DetailedTiming}
 use Rattle.crate_record.specs.declared.Chromaticity.{Chromaticity}
 use Rattle.crate_record.specs.declared.WhitePoint.{WhitePoint}
-use Rattle.crate_record.specs.declared.Held.{Held}
+use Rattle.crate_record.specs.declared.MonitorDescriptor.{MonitorDescriptor}
 use Rattle.crate_record.specs.declared.MonitorDescriptor.TheVariants.{MonitorName, ManufacturerDefined}
 use Rattle.crate_record.specs.declared.SyncType.TheVariants.{Separate}
 use Rattle.crate_record.specs.declared.VideoInput.TheVariants.{Digital}
-use Rattle.crate_record.specs.declared.MaxSize.TheVariants as Size
-use Rattle.crate_record.specs.declared.Gamma.TheVariants as Gamma
 use Rattle.crate_record.specs.declared.DisplayType.TheVariants.{RGBColor}
 
 unfoldable pub specimen : List ℕ
@@ -53,7 +51,7 @@ abbrev pub mode : ℕ → ℕ → StandardTiming
 mode width ratio = record { ratio = of_bits binary32 ratio; width = width; rate = 60 }
 
 -- the specimen's record, with this revision, these standard timings, this detailed timing, these white points and these descriptors
-unfoldable pub specimen_of : ℕ → List StandardTiming → DetailedTiming → List WhitePoint → List Held → EDID
+unfoldable pub specimen_of : ℕ → List StandardTiming → DetailedTiming → List WhitePoint → List MonitorDescriptor → EDID
 specimen_of revision standard t points descriptors =
     holding (record {
       product = record {
@@ -65,8 +63,8 @@ specimen_of revision standard t points descriptors =
       version = record { version = 1; revision = revision };
       display = record {
         input = Digital true;
-        size = Size.Some (record { width = of_bits binary32 0x4200_0000; height = of_bits binary32 0x4190_0000 });
-        gamma = Gamma.Some (of_bits binary32 0x4000_0000);
+        size = Some (record { width = of_bits binary32 0x4200_0000; height = of_bits binary32 0x4190_0000 });
+        gamma = Some (of_bits binary32 0x4000_0000);
         dpms = record {
           standby = false;
           suspend = false;
@@ -87,12 +85,12 @@ specimen_of revision standard t points descriptors =
     })
 
 -- with its own revision and pair, of 5/4
-abbrev pub specimen_with : DetailedTiming → List WhitePoint → List Held → EDID
+abbrev pub specimen_with : DetailedTiming → List WhitePoint → List MonitorDescriptor → EDID
 specimen_with = specimen_of 3 (mode 1280 0x3fa0_0000 ∷ [])
 
 -- its name, and two empty descriptors
-unfoldable pub named : List Held
+unfoldable pub named : List MonitorDescriptor
 named =
-    record { descriptor = MonitorName (record { start = 77; len = 5 }) } ∷
-    record { descriptor = ManufacturerDefined 0 (record { start = 95; len = 13 }) } ∷
-    record { descriptor = ManufacturerDefined 0 (record { start = 113; len = 13 }) } ∷ []
+    MonitorName (record { start = 77; len = 5 }) ∷
+    ManufacturerDefined 0 (record { start = 95; len = 13 }) ∷
+    ManufacturerDefined 0 (record { start = 113; len = 13 }) ∷ []
