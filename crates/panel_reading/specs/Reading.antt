@@ -1,5 +1,5 @@
 -- A panel's text read: the record that its lines give with the bytes that the record's spans point to, or refusal 19 with the number of a line.
-use Rattle.std.specs.Prelude.{ℕ, cond, List, ltb, length, replicate, Ok, Err}
+use Rattle.std.specs.Prelude.{ℕ, cond, List, ltb, length, replicate, Result, Ok, Err}
 use Rattle.standard_record.specs.Filler.{blank}
 use Rattle.standard_record.specs.declared.Display.{Display}
 use Rattle.standard_record.specs.declared.Color.{Color}
@@ -10,8 +10,6 @@ use Rattle.panel_front.specs.Front.{byte_at, product_of, version_of, input_of, s
 use Rattle.panel_lists.specs.Lists.{points_of, pairs_of, timings_of, entries_of, bytes_of, established_of}
 use Rattle.panel_layout.specs.Layout.{layout_of}
 use Rattle.panel_layout.specs.declared.Places.{Places}
-use Rattle.panel_layout.specs.declared.Laid.{Laid}
-use Rattle.panel_layout.specs.declared.Laid.TheVariants.{Has, Wrong}
 use Rattle.panel_reading.specs.declared.PanelReading.{PanelReading}
 
 unfoldable pub display_of : List ℕ → Display
@@ -42,9 +40,9 @@ record_of s p = record {
 unfoldable pub lost : ℕ → PanelReading
 lost line = record { reading = record { edid = blank; end = Err (record { number = 19; at = line }) }; bytes = replicate 39 0 }
 
-unfoldable pub read_by : List ℕ → Laid → PanelReading
-read_by s (Has p) = record { reading = record { edid = record_of s p; end = Ok tt }; bytes = bytes_of s p.entries p.extensions }
-read_by s (Wrong k) = lost (line_number s k)
+unfoldable pub read_by : List ℕ → Result Places ℕ → PanelReading
+read_by s (Ok p) = record { reading = record { edid = record_of s p; end = Ok tt }; bytes = bytes_of s p.entries p.extensions }
+read_by s (Err k) = lost (line_number s k)
 
 -- a text above 65,536 bytes is lost in the line where that is passed
 unfoldable pub read_text : List ℕ → PanelReading

@@ -4,7 +4,7 @@
 ghost use Rattle.std.specs.Prelude.{◌≡◌};
 ghost use Rattle.panel_reading.specs.Reading.{display_of, color_of, listed_of, record_of, lost, read_by, read_text};
 
-use panel_layout::{Laid, Places};
+use panel_layout::Places;
 use standard_record::{Color, Display, StandardReading, StandardRecord, Timings};
 use steps::Refusal;
 
@@ -18,6 +18,7 @@ pub struct PanelReading {
 // The longest text.
 const MOST: usize = 65536;
 
+#[tactic(auto, unfolding(crate::specs::Reading::display_of))]
 fn display(s: &[u8]) -> Display
     ensures { result ≡ display_of s.now }
 {
@@ -29,6 +30,7 @@ fn display(s: &[u8]) -> Display
     }
 }
 
+#[tactic(auto, unfolding(crate::specs::Reading::color_of))]
 fn color(s: &[u8], p: Places) -> Color
     ensures { result ≡ color_of s.now p }
 {
@@ -38,6 +40,7 @@ fn color(s: &[u8], p: Places) -> Color
     }
 }
 
+#[tactic(auto, unfolding(crate::specs::Reading::listed_of))]
 fn timings(s: &[u8], p: Places) -> Timings
     ensures { result ≡ listed_of s.now p }
 {
@@ -48,6 +51,7 @@ fn timings(s: &[u8], p: Places) -> Timings
     }
 }
 
+#[tactic(auto, unfolding(crate::specs::Reading::record_of))]
 fn record_by(s: &[u8], p: Places) -> StandardRecord
     ensures { result ≡ record_of s.now p }
 {
@@ -62,6 +66,7 @@ fn record_by(s: &[u8], p: Places) -> StandardRecord
     }
 }
 
+#[tactic(auto, unfolding(crate::specs::Reading::lost))]
 fn lost(line: usize) -> PanelReading
     ensures { result ≡ lost line }
 {
@@ -76,11 +81,12 @@ fn lost(line: usize) -> PanelReading
     }
 }
 
-fn read_by(s: &[u8], laid: Laid) -> PanelReading
+#[tactic(auto, unfolding(crate::specs::Reading::read_by))]
+fn read_by(s: &[u8], laid: Result<Places, usize>) -> PanelReading
     ensures { result ≡ read_by s.now laid }
 {
     match laid {
-        Laid::Has(p) => {
+        Ok(p) => {
             let edid = record_by(s, p);
             let end = Ok(());
             PanelReading {
@@ -88,10 +94,11 @@ fn read_by(s: &[u8], laid: Laid) -> PanelReading
                 bytes: panel_lists::bytes(s, p.entries, p.extensions),
             }
         }
-        Laid::Wrong(k) => lost(text_lines::line_number(s, k)),
+        Err(k) => lost(text_lines::line_number(s, k)),
     }
 }
 
+#[tactic(auto, unfolding(crate::specs::Reading::read_text))]
 pub fn read_panel(s: &[u8]) -> PanelReading
     ensures { result ≡ read_text s.now }
 {
