@@ -274,6 +274,8 @@ pub fn fits(l: &[u8], form: &[u8]) -> bool
 
 // ---- the word at k of a line
 
+// `k` is another at each call: methods of a line would be no plainer than these.
+
 pub fn number<N: Unsigned>(l: &[u8], k: usize) -> N
     ensures { N.value result ≡ kinds.number_of N.most (l.now word k) }
 {
