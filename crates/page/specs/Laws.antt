@@ -27,23 +27,7 @@ unfolding ◌▷◌
 joined p [] cs = refl
 joined p (b ∷ bs) cs = joined (and p b) bs cs
 
--- an append after another
-pub after : (p : Page) {q r : Page} (bs cs : List ℕ) → q ≡ p ▷ bs → r ≡ q ▷ cs → r ≡ p ▷ (bs ++ cs)
-after p bs cs e f = f ∙ ap (λ (o : Page). o ▷ cs) e ∙ joined p bs cs
-
--- ---- a chain of appends: p, then each of the pieces, is q
-
-infixr 20 ◌so◌
-pub data Chain : Page → List (List ℕ) → Page → Type 0 where
-  done : {p : Page} → Chain p [] p
-  ◌so◌ : {p q r : Page} {x : List ℕ} {xs : List (List ℕ)} → q ≡ p ▷ x → Chain q xs r → Chain p (x ∷ xs) r
-
-pub line : {p q : Page} {xs : List (List ℕ)} → Chain p xs q → q ≡ p ▷ flat xs
-unfolding flat
-line {p} done = sym (nothing p)
-line {p} {xs = x ∷ xs} (e so f) = after p x (flat xs) e (line f)
-
--- the same as equations, from which the check finds a chain of its own accord
+-- pieces, one after the other: the equations by which the check finds a line
 pub pieces : (p : Page) (x : List ℕ) (xs : List (List ℕ)) → p ▷ flat (x ∷ xs) ≡ p ▷ x ▷ flat xs
 unfolding flat
 pieces p x xs = sym (joined p x (flat xs))
@@ -122,31 +106,3 @@ one_more p f s i d h = rw (joined, each_more f s i d h) refl
 
 -- what the check finds the contracts by, of what appends piece after piece
 pub ruleset appends = (nothing, one_longer, one_more, pieces, no_pieces)
-
--- a turn of a loop that appends f of one element after the other
-pub turn : {A : Type 0} {p q : Page} (f : A → List ℕ) (s : List A) (i : ℕ) (d : A) → i < length s
-    → Chain p (each f (take i s) ∷ f (get_or s i d) ∷ []) q → q ≡ p ▷ each f (take (i + 1) s)
-unfolding flat
-turn f s i d h c = rw (← each_more f s i d h) (rw append-nil at (line c))
-
-pub take_min : (l : List ℕ) (n : ℕ) → take (min n (length l)) l ≡ take n l
-take_min l zero = rw (zero-min (length l))
-take_min [] (suc n) = rw (min-zero (suc n))
-take_min (x ∷ xs) (suc n) = rw (suc-min-suc n (length xs)) (ap (λ (r : List ℕ). x ∷ r) (take_min xs n))
-
--- a count that was cut to the list's size takes what the count takes
-take_cut : (l : List ℕ) (n i : ℕ) → i ≡ min n (length l) → take i l ≡ take n l
-take_cut l n i e = rw e (take_min l n)
-
-pub drop_min : (l : List ℕ) (n : ℕ) → drop (min n (length l)) l ≡ drop n l
-drop_min l zero = rw (zero-min (length l))
-drop_min [] (suc n) = rw (min-zero (suc n))
-drop_min (x ∷ xs) (suc n) = rw (suc-min-suc n (length xs)) (drop_min xs n)
-
--- a part whose start and length were cut to the list's size
-pub part_cut : (l : List ℕ) (start len from end : ℕ) → from ≡ min start (length l) → end ≡ from + min len (length l - from)
-    → take (end - from) (drop from l) ≡ take len (drop start l)
-part_cut l start len from end e f =
-    let size : length (drop from l) ≡ length l - from = length-drop from l in
-    let g : end - from ≡ min len (length (drop from l)) = omega arith in
-    take_cut (drop from l) len (end - from) g ∙ ap (take len) (rw e (drop_min l start))
