@@ -1,7 +1,7 @@
 -- How descriptors end: what the crate reading lets pass the standard reading lets pass too, and what it refuses is refused there with the same number,
 -- but for a text that is filled up with something else than spaces.
 use Prim.Native.Nat.{ℕ, zero, suc, ◌+◌, ◌-◌, ◌*◌}
-use Rattle.std.specs.Prelude.{◌≡◌, Bool, true, false, ◌||◌, cond, eqb}
+use Rattle.std.specs.Prelude.{◌≡◌, Bool, true, false, ◌||◌, cond, eqb, Ok, Err}
 use Rattle.std.proofs.Math.Path.{refl}
 use Rattle.std.proofs.Common.{ap}
 use Rattle.std.proofs.lemmas.Bool.{false≢true}
@@ -111,8 +111,8 @@ module _ (F : ℕ → Type 0) where
 
   -- a closing, and what follows it
   pub closing_then : {B : Type 0} (R : B → List ℕ → ℕ → Type 0) (g : Unit → Steps B) (n b : ℕ) (ds rest : List ℕ) (at : ℕ) → length ds ≡ n * 2
-      → Bytes ds → (closing_refusal b (all_spaces ds) ≡ 4 → F 4) → (closing_refusal b (all_spaces ds) ≡ 5 → F 5)
-      → ((m : ℕ) → m ≡ at + 1 + length ds → closing_refusal b (all_spaces ds) ≡ 0 → Along R F (g tt) rest m)
+      → Bytes ds → (closing_refusal b (all_spaces ds) ≡ Err 4 → F 4) → (closing_refusal b (all_spaces ds) ≡ Err 5 → F 5)
+      → ((m : ℕ) → m ≡ at + 1 + length ds → closing_refusal b (all_spaces ds) ≡ Ok tt → Along R F (g tt) rest m)
       → Along R F (closing n >>= g) (b ∷ (ds ++ rest)) at
   unfolding closing byte closing_refusal
   closing_then R g n b ds rest at h l four five next =

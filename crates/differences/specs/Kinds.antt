@@ -2,7 +2,7 @@
 -- b0 to b17 are its bytes, `rest` what follows, `at` its place. F is to hold of the number of each refusal: the standard slot is refused with the same
 -- number, but for a text that is filled up with something else than spaces.
 use Prim.Native.Nat.{ℕ, zero, suc, ◌+◌, ◌*◌, ◌<◌}
-use Rattle.std.specs.Prelude.{◌≡◌, Bool, true, cond, not, leb, ltb, drop, Ok}
+use Rattle.std.specs.Prelude.{◌≡◌, Bool, true, cond, not, leb, ltb, drop, Ok, Err}
 use Rattle.std.proofs.Math.Path.{refl, sym, ap, subst}
 use Rattle.std.proofs.Common.{◌∙◌}
 use Rattle.std.proofs.Math.Bool.{false}
@@ -173,9 +173,9 @@ module _ (Still : Type 0) (σ : Structure) (F : ℕ → Type 0) (b0 b1 b2 b3 b4 
   second = secondary_of b10 b12 b13 b14 b15 b16 b17 (record { start = at + 11; len = 7 })
 
   abbrev SecondRead : CrateSecond → List ℕ → ℕ → Type 0
-  SecondRead t es n = (range_refusal b10 b11 (all_spaces (drop 12 slot)) ≡ 0) × (t ≡ second_from second) × (es ≡ rest) × (n ≡ at + 18)
+  SecondRead t es n = (range_refusal b10 b11 (all_spaces (drop 12 slot)) ≡ Ok tt) × (t ≡ second_from second) × (es ≡ rest) × (n ≡ at + 18)
 
-  second_along : Bytes slot → (range_refusal b10 b11 (all_spaces (drop 12 slot)) ≡ 4 → F 4) → (range_refusal b10 b11 (all_spaces (drop 12 slot)) ≡ 5 → F 5)
+  second_along : Bytes slot → (range_refusal b10 b11 (all_spaces (drop 12 slot)) ≡ Err 4 → F 4) → (range_refusal b10 b11 (all_spaces (drop 12 slot)) ≡ Err 5 → F 5)
       → Along SecondRead F (crate.secondary b10) (drop 11 slot ++ rest) there
   unfolding crate.secondary crate.none crate.gtf crate.gtf_of crate.other span skip byte word range_refusal secondary_of
   second_along bytes four five =

@@ -1,5 +1,5 @@
 -- What both readings make of the same few bytes: the crate's is the standard one, converted.
-use Rattle.std.specs.Prelude.{ℕ, zero, suc, ◌+◌, ◌*◌, ◌/◌, ◌%◌, ◌^◌, ◌<◌, ◌≡◌, refl, Bool, true, false, ◌&&◌, ◌||◌, not, cond, [], ◌∷◌, map, eqb, ltb}
+use Rattle.std.specs.Prelude.{ℕ, zero, suc, ◌+◌, ◌*◌, ◌/◌, ◌%◌, ◌^◌, ◌<◌, ◌≡◌, refl, Bool, true, false, ◌&&◌, ◌||◌, not, cond, [], ◌∷◌, map, eqb, ltb, Some, None, Option}
 use Rattle.std.proofs.Common.{sym, ap, ◌∙◌, add-zero, arith, eqb-true, lt-ltb, le-ltb, ne_eqb}
 use Rattle.std.specs.Float.{binary32}
 use Rattle.std.specs.Float.Ieee.{of_bits, of_int, add, div}
@@ -18,6 +18,7 @@ use Rattle.crate_detailed.specs.Detailed.{line_of as crate_line_of, sync_by as c
 use Rattle.crate_descriptors.specs.Descriptors.{point_of as crate_point_of, limits_of as crate_limits_of}
 use Rattle.timing.specs.Rest.{polarity_of}
 use Rattle.timing.specs.declared.Size.{Size}
+use Rattle.standard_record.specs.declared.StandardTiming.{StandardTiming}
 use Rattle.standard_record.specs.declared.Week.{Week}
 use Rattle.standard_record.specs.declared.VideoInput.{VideoInput}
 use Rattle.standard_record.specs.declared.ImageSize.{ImageSize}
@@ -29,7 +30,6 @@ use Rattle.standard_parts.specs.Descriptors.{offsets_of, limits_of}
 use Rattle.standard_parts.specs.Color.{point_of}
 use Rattle.standard_parts.specs.Timings.{ratio_of, pair_of}
 use Rattle.standard_parts.specs.declared.Structure.{Structure}
-use Rattle.standard_parts.specs.declared.Pair.{Pair}
 use Rattle.standard_slots.specs.Said.{of_pair, of_point}
 use Rattle.marking.specs.Marks.{code_zero}
 use Rattle.differences.specs.Converted.{over, week_from, input_from, size_from, gamma_from, type_from, kind_from, features_from, ratio_from, pair_from, point_from, line_from, sync_from, limits_from}
@@ -155,11 +155,11 @@ pair_agrees σ low high h = go (eqb low 1 && eqb high 1) h
     crate : CratePair
     crate = CratePair.Listed (standard_timing_of low high)
 
-    standard : Pair
-    standard = Pair.Listed (record { width = (low + 31) * 8; ratio = ratio_of σ (digits high 6 2); rate = digits high 0 6 + 60 })
+    standard : Option StandardTiming
+    standard = Some (record { width = (low + 31) * 8; ratio = ratio_of σ (digits high 6 2); rate = digits high 0 6 + 60 })
 
     go : (one : Bool) → (σ ≡ Structure.Below3 → (eqb (digits high 6 2) 0 && not one) ≡ false)
-        → listed (cond one CratePair.Skipped crate) ≡ map pair_from (of_pair (cond one Pair.Skipped standard))
+        → listed (cond one CratePair.Skipped crate) ≡ map pair_from (of_pair (cond one None standard))
     go true h = refl
     go false h =
         ap (λ x. record { ratio = x; width = (low + 31) * 8; rate = digits high 0 6 + 60 } ∷ [])
