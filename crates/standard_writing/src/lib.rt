@@ -290,6 +290,7 @@ fn fill(block: &mut [u8], r: StandardRecord, lent: &[u8]) -> bool
 }
 
 // The block of r, whose spans point into the bytes lent: 0, or the number of a refusal, which leaves the output as it was.
+// It stays a number: `Written` of write_block and its theorems name 0, 10 and 11, and C is handed it as it is.
 pub fn write_standard(r: StandardRecord, lent: &[u8], out: &mut [u8]) -> u8
     ensures { Written r lent.now out.old result out.new }
 {

@@ -1,7 +1,10 @@
 -- The loops over the flags, turn by turn. Assumes nothing.
-use Prim.Native.Nat.{ℕ, suc, ◌+◌, ◌*◌, ◌/◌, ◌%◌, ◌^◌, ◌<◌, ◌≤◌}
-use mathlib.Core.Path.{◌≡◌, refl, ap, ◌∙◌}
-use mathlib.Core.Bool.{Bool, true, false, ◌&&◌}
+use Rattle.std.specs.Prelude.{◌↔◌}
+use borrow.Author.Tests.{eq-eqb, eqb-true}
+use Rattle.write_leaf.specs.Digits.{both_hold}
+use Prim.Native.Nat.{ℕ, ◌+◌, ◌*◌, ◌/◌, ◌%◌, ◌^◌, ◌<◌, ◌≤◌}
+use mathlib.Core.Path.{◌≡◌, refl, ap, ap₂, ◌∙◌}
+use mathlib.Core.Bool.{Bool, true}
 use mathlib.Core.List.{List, [], ◌∷◌}
 use native.Mathlib.Nat.{one-mul}
 use native.Mathlib.Numerals.{add-one}
@@ -20,22 +23,19 @@ use Rattle.write_head.specs.Totals.{writes_flags}
 
 -- ---- a turn of each loop
 
-pub same_lengths : (xs ys : List ℕ) → (length xs ≡ length ys → ⊥) → same_list xs ys ≡ false
-same_lengths [] [] h = absurd (h refl)
-same_lengths [] (y ∷ ys) h = refl
-same_lengths (x ∷ xs) [] h = refl
-same_lengths (x ∷ xs) (y ∷ ys) h = rw (same_lengths xs ys (λ e. h (ap suc e))) (never (eqb x y))
+-- two lists are the same where they are equal, and only there
+pub same_is : (xs ys : List ℕ) → (same_list xs ys ≡ true) ↔ (xs ≡ ys)
+same_is xs ys = (one xs ys, λ e. rw e (again ys))
   where
-    never : (b : Bool) → (b && false) ≡ false
-    never true = refl
-    never false = refl
+    again : (xs : List ℕ) → same_list xs xs ≡ true
+    again [] = refl
+    again (x ∷ xs) = rw (eq-eqb x x refl) (again xs)
 
-pub same_turn : (xs ys : List ℕ) (i : ℕ) → i < length xs → i < length ys
-    → same_list (drop i xs) (drop i ys) ≡ (eqb (get_or xs i 0) (get_or ys i 0) && same_list (drop (i + 1) xs) (drop (i + 1) ys))
-same_turn xs ys i h k = rw (add-one, drop-cons xs i 0 h, drop-cons ys i 0 k)
-
-pub same_end : (xs ys : List ℕ) (i : ℕ) → length xs ≤ i → length ys ≤ i → same_list (drop i xs) (drop i ys) ≡ true
-same_end xs ys i h k = rw (drop_of_length-le xs h, drop_of_length-le ys k)
+    one : (xs ys : List ℕ) → same_list xs ys ≡ true → xs ≡ ys
+    one [] [] h = refl
+    one [] (y ∷ ys) h = cc
+    one (x ∷ xs) [] h = cc
+    one (x ∷ xs) (y ∷ ys) h = let t = both_hold (eqb x y) (same_list xs ys) h in ap₂ ◌∷◌ (eqb-true x y t.0) (one xs ys t.1)
 
 pub total_turn : (xs : List ℕ) (i : ℕ) → i < length xs → total (drop i xs) ≡ 2 ^ (get_or xs i 0 % 17) + total (drop (i + 1) xs)
 total_turn xs i h = rw (add-one, drop-cons xs i 0 h)

@@ -87,7 +87,7 @@ fn week_byte(structure: Structure, w: Week) -> OneByte
     let new = standard_parts::since_4(structure);
     match w {
         Week::Made(week) => OneByte {
-            fits: !write_leaf::both(new, week == 0xff),
+            fits: !(new & (week == 0xff)),
             byte: week,
         },
         Week::ModelYear => OneByte {
@@ -318,28 +318,17 @@ fn total(t: &[u8]) -> u32
     ensures { result ≡ total t.now }
 {
     let mut sum: u32 = 0;
-    let mut i = 0;
-    while i < t.len() {
-        sum += 1 << (t[i] % 17);
-        i += 1;
+    for n in t {
+        sum += 1 << (*n % 17);
     }
     sum
 }
 
+#[tactic(auto, using(crate::proofs::Flags::same_is))]
 fn same(a: &[u8], b: &[u8]) -> bool
     ensures { result ≡ same_list a.now b.now }
 {
-    if a.len() != b.len() {
-        return false;
-    }
-    let mut i = 0;
-    while i < a.len() {
-        if a[i] != b[i] {
-            return false;
-        }
-        i += 1;
-    }
-    true
+    a == b
 }
 
 // The first `len`, as far as there are any.
