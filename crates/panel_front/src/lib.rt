@@ -121,7 +121,7 @@ pub fn size(l: &[u8]) -> ImageSize
 
 // The word at k.
 #[tactic(auto, unfolding(crate::specs::Front::gamma_at))]
-pub fn gamma(l: &[u8], k: usize) -> Gamma
+pub fn gamma(l: &[u8], k: usize) -> Option<u16>
     ensures { result ≡ front.gamma_at l.now k }
 {
     if text_kinds::is_word(l, k, b"none") {
