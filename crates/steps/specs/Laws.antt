@@ -3,7 +3,7 @@ use Rattle.std.specs.Prelude.{ℕ, suc, ◌+◌, ◌-◌, ◌≤◌, ◌<◌, �
 use Rattle.std.proofs.Common.{arith, sym, ◌∙◌, subst, lt-ltb, le-ltb, ltb-true, ltb-false}
 use Rattle.std.proofs.Math.Path.{refl, ap}
 use Rattle.steps.specs.Steps.{Steps, done, refuse, next, here, ◌>>=◌, Outcome, refused, run, and_then, ensure}
-use Rattle.steps.specs.Leaves.{ended, Filled, Beside}
+use Rattle.steps.specs.Leaves.{byte, two, four, outcome, ended, Filled, Beside}
 use Rattle.steps.specs.declared.Refusal.{Refusal}
 
 module _ {A : Type 0} (f : ℕ → Steps A) (s : List ℕ) (at : ℕ) where
@@ -45,6 +45,18 @@ run_bind (here f) g s at = run_bind (f at) g s at
 pub step : {A B R : Type 0} (of : R → Outcome A) (p : Steps A) (g : A → Steps B) (s : List ℕ) (at : ℕ) {r r' : R}
     → of r ≡ run p s at → r ≡ r' → run (p >>= g) s at ≡ and_then (of r') (λ a n. run (g a) s n)
 step of p g s at e m = run_bind p g s at ∙ ap (λ o. and_then o (λ a n. run (g a) s n)) (sym e ∙ ap of m)
+
+-- the same where the code takes two or four bytes at once, and the program one after the other
+pub step_two : {B : Type 0} (g : ℕ → ℕ → Steps B) (s : List ℕ) (at n : ℕ) (r : Result (ℕ × ℕ) Refusal) → outcome r n ≡ run two s at
+    → run (byte >>= (λ a. byte >>= (λ b. g a b))) s at ≡ and_then (outcome r n) (λ p m. run (g p.0 p.1) s m)
+unfolding byte two
+step_two g s at n r e = step (λ r. outcome r n) two (λ p. g p.0 p.1) s at e refl
+
+pub step_four : {B : Type 0} (g : ℕ → ℕ → ℕ → ℕ → Steps B) (s : List ℕ) (at n : ℕ) (r : Result (ℕ × ℕ × ℕ × ℕ) Refusal) → outcome r n ≡ run four s at
+    → run (byte >>= (λ a. byte >>= (λ b. byte >>= (λ c. byte >>= (λ d. g a b c d))))) s at
+    ≡ and_then (outcome r n) (λ p m. run (g p.0 p.1 p.2 p.3) s m)
+unfolding byte four
+step_four g s at n r e = step (λ r. outcome r n) four (λ p. g p.0 p.1 p.2 p.3) s at e refl
 
 -- one program for an equal one
 pub same_run : {A : Type 0} {p q : Steps A} (s : List ℕ) (at : ℕ) → p ≡ q → run p s at ≡ run q s at

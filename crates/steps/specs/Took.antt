@@ -100,6 +100,9 @@ abbrev pub with_value : {A : Type 0} → A → Result Unit Refusal → Result A 
 with_value a (Ok t) = Ok a
 with_value a (Err f) = Err f
 
+pub with_refusal : {A : Type 0} (a : A) {f : Refusal} {r : Result Unit Refusal} → r ≡ Err f → with_value a r ≡ Err f
+with_refusal a e = ap (with_value a) e
+
 pub stop_with : {A B : Type 0} {p : Steps A} (g : A → Steps B) (b : B) {c c' : Cursor} {f : Refusal} {r : Result Unit Refusal}
     → Took p c (Err f) c' → r ≡ Err f → Took (p >>= g) c (with_value b r) c'
-stop_with g b t e = stop g t (ap (with_value b) e)
+stop_with g b t e = stop g t (with_refusal b e)
