@@ -22,7 +22,10 @@ fn main(rt: HostRuntime) -> io::Result<()> {
         UPPER DECK";
     let before = standard_reading::read_standard(bits::part(lent, 0, 128)).edid;
     let mut out = [0u8; 4096];
-    let mut page = Page { out: &mut out, at: 0 };
+    let mut page = Page {
+        out: &mut out,
+        at: 0,
+    };
     standard_slot_lines::detailed_lines(&mut page, before.timings.detailed);
     // The texts of a record are spans: the bytes that they point into are lent beside it, here all of them.
     let mut block = [0u8; 128];
