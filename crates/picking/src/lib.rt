@@ -46,11 +46,10 @@ pub fn choose(limits: Limits, list: DetailedTimings) -> Choice
     ensures { Chooses limits (listed list) result }
 {
     let items = list.items;
-    let mut k = list.len.min(4);
+    let end = list.len.min(4);
     let mut most = 0;
-    let mut at = k;
-    while k > 0 {
-        k -= 1;
+    let mut at = end;
+    for k in (0..end).rev() {
         let h = items[k];
         let its = score(limits, h.timing);
         if its >= most {

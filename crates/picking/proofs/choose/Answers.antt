@@ -3,34 +3,29 @@
 use mathlib.Core.Path.{◌≡◌}
 use native.Mathlib.Omega.{arith}
 use lib.ListN.{length}
-use borrow.Author.Rules.{rules}
 use Rattle.picking.specs.Score.{score_of}
 use Rattle.picking.proofs.Laws.{from_the_end, taken, passed, none_chosen, one_chosen}
 use Rattle.picking.proofs.choose.Goals as goal
 
 pub loop-k-init : goal.loop-k-init
-loop-k-init c = (search rules, from_the_end (score_of _) (λ h. h.timing) _ c.min-k.result)
+loop-k-init c = from_the_end (score_of _) (λ h. h.timing) _ c.min-end.result
 
 pub returns-then-most-eq0 : goal.returns-then-most-eq0
 returns-then-most-eq0 c =
     let at-0 : c.loop-k.k ≡ 0 = omega arith in
-    rw (← c.min-k.ensures) (none_chosen _ _ _ _ (rw at-0 at c.loop-k.invariant.1) c.if-most-eq0.true)
+    rw (← c.min-end.ensures) (none_chosen _ _ _ _ (rw at-0 at c.loop-k.invariant) c.if-most-eq0.true)
 
 pub returns-else-most-eq0 : goal.returns-else-most-eq0
 returns-else-most-eq0 c =
     let at-0 : c.loop-k.k ≡ 0 = omega arith in
-    rw (← c.min-k.ensures) (one_chosen _ _ _ _ (rw at-0 at c.loop-k.invariant.1) c.if-most-eq0.false)
+    rw (← c.min-end.ensures) (one_chosen _ _ _ _ (rw at-0 at c.loop-k.invariant) c.if-most-eq0.false)
 
 pub loop-k-preserved-then-its-most : goal.loop-k-preserved-then-its-most
 loop-k-preserved-then-its-most c =
-    let size : length c.args.list.items ≡ 4 = omega arith in (
-      search rules,
-      taken (score_of _) (λ h. h.timing) _ c.min-k.result (omega (arith, size)) c.loop-k.k _ _ (omega arith) (omega arith) c.loop-k.invariant.1 _ _ c.score-its.ensures c.if-its-most.true,
-    )
+    let size : length c.args.list.items ≡ 4 = omega arith in
+    taken (score_of _) (λ h. h.timing) _ c.min-end.result (omega (arith, size)) c.loop-k.k _ _ (omega arith) (omega arith) c.loop-k.invariant _ _ c.score-its.ensures c.if-its-most.true
 
 pub loop-k-preserved : goal.loop-k-preserved
 loop-k-preserved c =
-    let size : length c.args.list.items ≡ 4 = omega arith in (
-      search rules,
-      passed (score_of _) (λ h. h.timing) _ c.min-k.result (omega (arith, size)) c.loop-k.k _ _ (omega arith) (omega arith) c.loop-k.invariant.1 _ _ c.score-its.ensures c.if-its-most.false,
-    )
+    let size : length c.args.list.items ≡ 4 = omega arith in
+    passed (score_of _) (λ h. h.timing) _ c.min-end.result (omega (arith, size)) c.loop-k.k _ _ (omega arith) (omega arith) c.loop-k.invariant _ _ c.score-its.ensures c.if-its-most.false

@@ -1,6 +1,5 @@
 -- `picking::choose` meets its contract. The invariant: of the timings from k on, `most` is the greatest score and `at` the first index of it.
 -- Assumes nothing.
-use Prim.Native.Nat.{◌≤◌}
 use mathlib.Core.List.{map}
 use lib.ListN.{take}
 use Rattle.picking.specs.Score.{score_of}
@@ -8,7 +7,4 @@ use Rattle.picking.proofs.Laws.{FromOn}
 use Rattle.picking.proofs.choose.Given as goal
 
 abbrev pub invariant-loop-k : goal.invariant-loop-k
-invariant-loop-k l = (l.k ≤ l.initial.k) × FromOn (score_of l.limits) (map (λ h. h.timing) (take l.initial.k l.items)) l.k l.most l.at
-
-abbrev pub decreases-loop-k : goal.decreases-loop-k
-decreases-loop-k l = l.k
+invariant-loop-k l = FromOn (score_of l.limits) (map (λ h. h.timing) (take l.end l.items)) l.k l.most l.at
