@@ -58,9 +58,8 @@ pub fn pairs_bytes(
     let mut fits = true;
     let mut bytes = [1u8; 16];
     let mut many: usize = 0;
-    let mut k = from;
-    while many < limit {
-        if k >= end {
+    for k in from..end {
+        if many >= limit {
             return PairsBytes { fits, bytes, many };
         }
         let w = held_bytes(structure, items[k], number);
@@ -71,7 +70,6 @@ pub fn pairs_bytes(
         bytes[2 * many + 1] = w.second;
         fits &= w.fits;
         many += 1;
-        k += 1;
     }
     PairsBytes { fits, bytes, many }
 }
