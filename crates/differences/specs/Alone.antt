@@ -155,7 +155,7 @@ exhibits =
     record { marks = these false false true false false false; block = index_block; look = λ x. first (λ p. p.index) x.points } ∷
     record { marks = these false false false true false false; block = gamma_block; look = λ x. first (λ p. to_bits binary32 p.gamma) x.points } ∷
     record { marks = these false false false false true false; block = ratio_block; look = λ x. first (λ p. to_bits binary32 p.ratio) x.standard } ∷
-    record { marks = these false false false false false true; block = revision_block; look = λ x. first (λ h. vmax_of h.descriptor) (drop 1 x.descriptors) } ∷ []
+    record { marks = these false false false false false true; block = revision_block; look = λ x. first (λ h. vmax_of h) (drop 1 x.descriptors) } ∷ []
 
 abbrev Each : (Exhibit → Type 0) → List Exhibit → Type 0
 Each P [] = Unit {0}

@@ -13,8 +13,6 @@ use Rattle.crate_record.specs.declared.ProductInformation.{ProductInformation}
 use Rattle.crate_record.specs.declared.SignalLevel.{SignalLevel}
 use Rattle.crate_record.specs.declared.VideoInput.{VideoInput as CrateInput}
 use Rattle.crate_record.specs.declared.ImageSize.{ImageSize as CrateSize}
-use Rattle.crate_record.specs.declared.MaxSize.{MaxSize}
-use Rattle.crate_record.specs.declared.Gamma.{Gamma as CrateGamma}
 use Rattle.crate_record.specs.declared.DisplayType.{DisplayType as CrateType}
 use Rattle.crate_record.specs.declared.DPMSFeatures.{DPMSFeatures}
 use Rattle.crate_record.specs.declared.DisplayParameters.{DisplayParameters}
@@ -28,7 +26,6 @@ use Rattle.crate_record.specs.declared.DetailedTiming.{DetailedTiming as CrateTi
 use Rattle.crate_record.specs.declared.Limits.{Limits as CrateLimits}
 use Rattle.crate_record.specs.declared.SecondaryTiming.{SecondaryTiming as CrateSecond}
 use Rattle.crate_record.specs.declared.MonitorDescriptor.{MonitorDescriptor}
-use Rattle.crate_record.specs.declared.Held.{Held as CrateHeld}
 use Rattle.standard_record.specs.Seen.{Seen}
 use Rattle.standard_record.specs.declared.Week.{Week}
 use Rattle.standard_record.specs.declared.Product.{Product}
@@ -65,9 +62,9 @@ abbrev pub chromaticity_from : Chromaticity → CrateChromaticity
 chromaticity_from p = record { x = over p.x f1024; y = over p.y f1024 }
 
 -- hundredths to a number
-abbrev pub gamma_from : Option ℕ → CrateGamma
-gamma_from None = CrateGamma.None
-gamma_from (Some n) = CrateGamma.Some (over n f100)
+abbrev pub gamma_from : Option ℕ → Option Float
+gamma_from None = None
+gamma_from (Some n) = Some (over n f100)
 
 -- width to height
 abbrev pub ratio_from : Ratio → Float
@@ -96,10 +93,10 @@ input_from (VideoInput.Analog level setup sync) = CrateInput.Analog (level_from 
 input_from (VideoInput.Digital dfp) = CrateInput.Digital dfp
 input_from (VideoInput.Interface depth code) = CrateInput.Digital (bit code 0)
 
-abbrev pub size_from : ImageSize → MaxSize
-size_from ImageSize.None = MaxSize.None
-size_from (ImageSize.Some mm) = MaxSize.Some (cm_from mm)
-size_from (ImageSize.Ratio r) = MaxSize.None
+abbrev pub size_from : ImageSize → Option CrateSize
+size_from ImageSize.None = None
+size_from (ImageSize.Some mm) = Some (cm_from mm)
+size_from (ImageSize.Ratio r) = None
 
 abbrev pub type_from : DisplayType → CrateType
 type_from DisplayType.Monochrome = CrateType.Monochrome
@@ -189,9 +186,6 @@ descriptor_from (Descriptor.Range limits second) = MonitorDescriptor.RangeLimits
 descriptor_from (Descriptor.Undefined tag run) = MonitorDescriptor.Undefined tag run
 descriptor_from (Descriptor.MakerDefined tag run) = MonitorDescriptor.ManufacturerDefined tag run
 
-abbrev pub held_from : Descriptor → CrateHeld
-held_from d = record { descriptor = descriptor_from d }
-
 -- ---- the record, with this maker: what it shows
 
 unfoldable pub converted : ManufacturerID → Seen → CrateSeen
@@ -204,6 +198,6 @@ converted maker r = record {
   established = r.established;
   standard = map (λ h. pair_from h.pair) r.standard;
   detailed = map (λ h. timing_from h.timing) r.detailed;
-  descriptors = map (λ h. held_from h.descriptor) r.descriptors;
+  descriptors = map (λ h. descriptor_from h.descriptor) r.descriptors;
   extensions = r.extensions;
 }

@@ -2,7 +2,7 @@
 -- b0 to b17 are its bytes, `rest` what follows, `at` its place. F is to hold of the number of each refusal: the standard slot is refused with the same
 -- number, but for a text that is filled up with something else than spaces.
 use Prim.Native.Nat.{ℕ, zero, suc, ◌+◌, ◌*◌, ◌<◌}
-use Rattle.std.specs.Prelude.{◌≡◌, Bool, true, cond, not, leb, ltb, drop, Ok, Err}
+use Rattle.std.specs.Prelude.{◌≡◌, Bool, true, cond, not, leb, ltb, drop, Ok, Err, Option, Some, None}
 use Rattle.std.proofs.Math.Path.{refl, sym, ap, subst}
 use Rattle.std.proofs.Common.{◌∙◌}
 use Rattle.std.proofs.Math.Bool.{false}
@@ -22,9 +22,7 @@ use Rattle.crate_record.specs.declared.DetailedTiming.{DetailedTiming as CrateTi
 use Rattle.crate_record.specs.declared.WhitePoint.{WhitePoint as CratePoint}
 use Rattle.crate_record.specs.declared.SecondaryTiming.{SecondaryTiming as CrateSecond}
 use Rattle.crate_record.specs.declared.MonitorDescriptor.{MonitorDescriptor}
-use Rattle.crate_record.specs.declared.Held.{Held as CrateHeld}
 use Rattle.crate_detailed.specs.Detailed.{detailed}
-use Rattle.crate_detailed.specs.declared.MaybeTiming.{MaybeTiming}
 use Rattle.crate_descriptors.specs.Descriptors as crate
 use Rattle.crate_descriptors.specs.declared.Points.TheVariants.{Two}
 use Rattle.crate_descriptors.specs.declared.Slot.{Slot}
@@ -45,7 +43,7 @@ use Rattle.standard_reading.specs.Slots.{judge}
 use Rattle.write_leaf.specs.Bytes.{Bytes}
 use Rattle.write_leaf.specs.Again.{drop_bytes}
 use Rattle.marking.specs.Marks.{active_low_zero, tag10, index_zero, gamma_ff, codes_zero, pairs_zero}
-use Rattle.differences.specs.Converted.{point_from, pair_from, timing_from, second_from, descriptor_from, held_from}
+use Rattle.differences.specs.Converted.{point_from, pair_from, timing_from, second_from, descriptor_from}
 use Rattle.differences.specs.Unmarked.{offsets_add, other_fill}
 use Rattle.differences.specs.Along.{Along, along_map, along_then, along_if, along_ensured}
 use Rattle.differences.specs.Leaves.{through, limits_agree, point_agrees}
@@ -54,11 +52,11 @@ use Rattle.differences.specs.Timed.{TimingRead, timing_along}
 use Rattle.differences.specs.Closings.{TextRead, text_along, closing_then}
 
 -- what a slot lists, converted
-abbrev plain : List CratePair → List CrateTiming → List CratePoint → List CrateHeld → slots.Plain
+abbrev plain : List CratePair → List CrateTiming → List CratePoint → List MonitorDescriptor → slots.Plain
 plain ss ts ws ds = record { standards = ss; timings = ts; points = ws; descriptors = ds }
 
 abbrev pub plain_from : Lists → slots.Plain
-plain_from l = plain (map pair_from l.pairs) (map timing_from l.timings) (map point_from l.points) (map held_from l.descriptors)
+plain_from l = plain (map pair_from l.pairs) (map timing_from l.timings) (map point_from l.points) (map descriptor_from l.descriptors)
 
 -- no mark in the slot t; and no offsets, where Still holds
 pub record Clean (Still : Type 0) (σ : Structure) (t : List ℕ) : Type 0 where
@@ -150,7 +148,7 @@ module _ (Still : Type 0) (σ : Structure) (F : ℕ → Type 0) (b0 b1 b2 b3 b4 
       (λ t es n r.
       let start : here ≡ at + 5 = omega arith in
       let e : t ≡ text_in slot at = r.0 ∙ ap (λ (k : ℕ). record { start = k; len = text_length (drop 5 slot) }) start in
-      (rw r.3, (λ _. rw r.3 (ap (λ u. plain [] [] [] (record { descriptor = u } ∷ [])) (same t ∙ ap (λ u. descriptor_from (d u)) e))), r.1, omega (arith, r.2)))
+      (rw r.3, (λ _. rw r.3 (ap (λ u. plain [] [] [] (u ∷ [])) (same t ∙ ap (λ u. descriptor_from (d u)) e))), r.1, omega (arith, r.2)))
       (text_along F (drop 5 slot) rest here refl (λ e. filled (rw e)))))
 
   -- the others
@@ -159,8 +157,8 @@ module _ (Still : Type 0) (σ : Structure) (F : ℕ → Type 0) (b0 b1 b2 b3 b4 
   raw_along =
       let start : here ≡ at + 5 = omega arith in (
         refl,
-        (λ _. ap (λ (k : ℕ). plain [] [] [] (record { descriptor = crate.raw_of b3 (record { start = k; len = 13 }) } ∷ [])) start
-            ∙ ap (λ u. plain [] [] [] (record { descriptor = u } ∷ [])) (through descriptor_from (ltb b3 0x10) refl refl)),
+        (λ _. ap (λ (k : ℕ). plain [] [] [] (crate.raw_of b3 (record { start = k; len = 13 }) ∷ [])) start
+            ∙ ap (λ u. plain [] [] [] (u ∷ [])) (through descriptor_from (ltb b3 0x10) refl refl)),
         refl,
         omega arith,
       )
@@ -198,7 +196,7 @@ module _ (Still : Type 0) (σ : Structure) (F : ℕ → Type 0) (b0 b1 b2 b3 b4 
       (along_map SecondRead F _ (crate.secondary b10) (drop 11 slot ++ rest) there
       (λ t es n r. (
         rw r.0,
-        (λ q. rw r.0 (λ i. plain [] [] [] (record { descriptor = MonitorDescriptor.RangeLimits (limits_agree σ b4 b5 b6 b7 b8 b9 (few q) i) (r.1 i) } ∷ []))),
+        (λ q. rw r.0 (λ i. plain [] [] [] (MonitorDescriptor.RangeLimits (limits_agree σ b4 b5 b6 b7 b8 b9 (few q) i) (r.1 i) ∷ []))),
         r.2,
         r.3,
       ))
@@ -226,7 +224,7 @@ module _ (Still : Type 0) (σ : Structure) (F : ℕ → Type 0) (b0 b1 b2 b3 b4 
   by_tag_lem c clock Tag.Raw k refused filled = raw_along
 
   -- a timing, whichever slot holds it
-  some_said : (i : ℕ) (t : CrateTiming) → said_at i (MaybeTiming.Some t) ≡ done (slots.timing t)
+  some_said : (i : ℕ) (t : CrateTiming) → said_at i (Some t) ≡ done (slots.timing t)
   some_said zero t = refl
   some_said (suc i) t = refl
 

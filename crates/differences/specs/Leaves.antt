@@ -1,17 +1,15 @@
 -- What both readings make of the same few bytes: the crate's is the standard one, converted.
-use Rattle.std.specs.Prelude.{ℕ, zero, suc, ◌+◌, ◌*◌, ◌/◌, ◌%◌, ◌^◌, ◌<◌, ◌≡◌, refl, Bool, true, false, ◌&&◌, ◌||◌, not, cond, [], ◌∷◌, map, eqb, ltb, Some, None, Option}
+use Rattle.std.specs.Prelude.{ℕ, zero, suc, ◌+◌, ◌*◌, ◌/◌, ◌%◌, ◌^◌, ◌<◌, ◌≡◌, refl, Bool, true, false, ◌&&◌, ◌||◌, not, cond, [], ◌∷◌, map, eqb, ltb, Option, Some, None}
 use Rattle.std.proofs.Common.{sym, ap, ◌∙◌, add-zero, arith, eqb-true, lt-ltb, le-ltb, ne_eqb}
 use Rattle.std.specs.Float.{binary32}
 use Rattle.std.specs.Float.Ieee.{of_bits, of_int, add, div}
 use Rattle.bits.specs.Fields.{digits, bit, by_code}
 use Rattle.crate_record.specs.Single.{f10, f100, whole, coordinate, ratio_of as crate_ratio_of}
 use Rattle.crate_record.specs.declared.ImageSize.{ImageSize as CrateSize}
-use Rattle.crate_record.specs.declared.MaxSize.{MaxSize}
 use Rattle.crate_record.specs.declared.VideoInput.{VideoInput as CrateInput}
-use Rattle.crate_record.specs.declared.Gamma.{Gamma as CrateGamma}
+use Rattle.crate_record.specs.declared.StandardTiming.{StandardTiming as CrateTiming}
 use Rattle.crate_head.specs.Head.{input_of as crate_input_of, size_of, gamma_from as crate_gamma_of, kind_of, dpms_of}
 use Rattle.crate_timings.specs.Pairs.{standard_timing_of, pair_of as crate_pair_of, listed}
-use Rattle.crate_timings.specs.declared.Pair.{Pair as CratePair}
 use Rattle.crate_record.specs.declared.SyncLine.{SyncLine as CrateLine}
 use Rattle.crate_record.specs.declared.SyncType.{SyncType}
 use Rattle.crate_detailed.specs.Detailed.{line_of as crate_line_of, sync_by as crate_sync_by}
@@ -93,14 +91,14 @@ size_agrees σ w h l m = go (eqb w 0) (eqb h 0) (since4 σ)
     alone w h z = cond z (ImageSize.Ratio (record { width = w; height = h })) ImageSize.None
 
     go : (a b z : Bool)
-        → cond (a || b) MaxSize.None (MaxSize.Some stored)
+        → cond (a || b) None (Some stored)
         ≡ size_from (cond a (cond b ImageSize.None (alone 100 (h + 99) z)) (cond b (alone (w + 99) 100 z) (ImageSize.Some mm)))
     go true true z = refl
     go true false true = refl
     go true false false = refl
     go false true true = refl
     go false true false = refl
-    go false false z = λ i. MaxSize.Some (record { width = cm_agrees w l i; height = cm_agrees h m i })
+    go false false z = λ i. Some (record { width = cm_agrees w l i; height = cm_agrees h m i })
 
 -- a byte and 100, in hundredths
 pub hundredths_agree : (v : ℕ) → v < 256 → div binary32 (add binary32 (whole v) f100) f100 ≡ over (v + 100) f100
@@ -108,7 +106,7 @@ hundredths_agree v h = ap (λ x. div binary32 x f100) (ap (add binary32 (whole v
 
 pub gamma_agrees : (v : ℕ) → v < 256 → crate_gamma_of v ≡ gamma_from (gamma_of v)
 unfolding crate_gamma_of gamma_of
-gamma_agrees v h = through gamma_from (eqb v 0xff) refl (ap CrateGamma.Some (hundredths_agree v h))
+gamma_agrees v h = through gamma_from (eqb v 0xff) refl (ap Some (hundredths_agree v h))
 
 type_agrees : (n : ℕ) → kind_of n ≡ type_from (type_of n)
 type_agrees n = through_code type_from n refl refl refl refl
@@ -152,14 +150,14 @@ pair_agrees σ low high h = go (eqb low 1 && eqb high 1) h
     alone true e = e
     alone false e = refl
 
-    crate : CratePair
-    crate = CratePair.Listed (standard_timing_of low high)
+    crate : Option CrateTiming
+    crate = Some (standard_timing_of low high)
 
     standard : Option StandardTiming
     standard = Some (record { width = (low + 31) * 8; ratio = ratio_of σ (digits high 6 2); rate = digits high 0 6 + 60 })
 
     go : (one : Bool) → (σ ≡ Structure.Below3 → (eqb (digits high 6 2) 0 && not one) ≡ false)
-        → listed (cond one CratePair.Skipped crate) ≡ map pair_from (of_pair (cond one None standard))
+        → listed (cond one None crate) ≡ map pair_from (of_pair (cond one None standard))
     go true h = refl
     go false h =
         ap (λ x. record { ratio = x; width = (low + 31) * 8; rate = digits high 0 6 + 60 } ∷ [])

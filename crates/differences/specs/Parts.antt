@@ -22,7 +22,7 @@ use Rattle.standard_verdict.specs.Verdict.{refused_at, ◌then◌, is_header, be
 use Rattle.standard_slots.specs.Said.{lists}
 use Rattle.standard_reading.specs.Slots.{said_in, judged}
 use Rattle.standard_reading.specs.Block.{flags_in, eight_in, plain}
-use Rattle.differences.specs.Converted.{point_from, pair_from, timing_from, held_from, converted}
+use Rattle.differences.specs.Converted.{point_from, pair_from, timing_from, descriptor_from, converted}
 use Rattle.differences.specs.Unmarked.{NoOffsets}
 use Rattle.differences.specs.Heads.{front_from}
 use Rattle.differences.specs.Slots.{listed, Accepts, All}
@@ -107,7 +107,7 @@ module _ (s : List ℕ) where
         standard =
             (map-append (λ p. pair_from p.pair) (map (held_pair.wrap 0) (eight_in s)) (turns held_pair (λ i. (lists (said_in s i)).pairs) 4) ∙ (λ i. eight i ++ pairs i)) j;
         detailed = turned held_timing timing_from (λ i. (lists (said_in s i)).timings) 4 j;
-        descriptors = turned held held_from (λ i. (lists (said_in s i)).descriptors) 4 j;
+        descriptors = turned held descriptor_from (λ i. (lists (said_in s i)).descriptors) 4 j;
         extensions = s ! 126;
       })
 

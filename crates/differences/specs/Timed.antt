@@ -10,7 +10,7 @@ use Rattle.timing.specs.Rest.{clock_of, size_of, border_of, stereo_of}
 use Rattle.timing.specs.declared.Across.{Across}
 use Rattle.timing.specs.declared.Down.{Down}
 use Rattle.crate_detailed.specs.Detailed.{fitted, axes, sync_of as crate_sync_of, timing_of, timed, detailed}
-use Rattle.crate_detailed.specs.declared.MaybeTiming.{MaybeTiming}
+use Rattle.crate_record.specs.declared.DetailedTiming.{DetailedTiming as CrateTiming}
 use Rattle.standard_record.specs.declared.DetailedTiming.{DetailedTiming}
 use Rattle.standard_timing.specs.Timing.{timing_in, sync_of}
 use Rattle.differences.specs.Converted.{cm_from, timing_from}
@@ -21,8 +21,8 @@ module _ (F : ℕ → Type 0) (b0 b1 b2 b3 b4 b5 b6 b7 b8 b9 b10 b11 b12 b13 b14
   abbrev slot : List ℕ
   slot = b0 ∷ b1 ∷ b2 ∷ b3 ∷ b4 ∷ b5 ∷ b6 ∷ b7 ∷ b8 ∷ b9 ∷ b10 ∷ b11 ∷ b12 ∷ b13 ∷ b14 ∷ b15 ∷ b16 ∷ b17 ∷ []
 
-  abbrev pub TimingRead : MaybeTiming → List ℕ → ℕ → Type 0
-  TimingRead m cs n = (d : DetailedTiming) × (timing_in slot ≡ Some d) × (m ≡ MaybeTiming.Some (timing_from d)) × (cs ≡ rest) × (n ≡ at + 18)
+  abbrev pub TimingRead : Option CrateTiming → List ℕ → ℕ → Type 0
+  TimingRead m cs n = (d : DetailedTiming) × (timing_in slot ≡ Some d) × (m ≡ Some (timing_from d)) × (cs ≡ rest) × (n ≡ at + 18)
 
   -- the standard timing with these axes
   abbrev fields : Across → Down → DetailedTiming
@@ -39,9 +39,9 @@ module _ (F : ℕ → Type 0) (b0 b1 b2 b3 b4 b5 b6 b7 b8 b9 b10 b11 b12 b13 b14
       }
 
   fields_agree : (h : Across) (v : Down)
-      → MaybeTiming.Some (timing_of (b0 + 256 * b1) (record { across = h; down = v }) b12 b13 b14 b15 b16 b17) ≡ MaybeTiming.Some (timing_from (fields h v))
+      → Some (timing_of (b0 + 256 * b1) (record { across = h; down = v }) b12 b13 b14 b15 b16 b17) ≡ Some (timing_from (fields h v))
   unfolding timing_of crate_sync_of
-  fields_agree h v = λ i. MaybeTiming.Some (record {
+  fields_agree h v = λ i. Some (record {
     clock = clock_of (b0 + 256 * b1);
     across = h;
     down = v;
