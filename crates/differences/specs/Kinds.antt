@@ -2,7 +2,7 @@
 -- b0 to b17 are its bytes, `rest` what follows, `at` its place. F is to hold of the number of each refusal: the standard slot is refused with the same
 -- number, but for a text that is filled up with something else than spaces.
 use Prim.Native.Nat.{ℕ, zero, suc, ◌+◌, ◌*◌, ◌<◌}
-use Rattle.std.specs.Prelude.{◌≡◌, Bool, true, cond, not, leb, ltb, drop, Ok, Err, Option, Some, None}
+use Rattle.std.specs.Prelude.{◌≡◌, Bool, true, cond, not, leb, ltb, drop, Ok, Err, Some}
 use Rattle.std.proofs.Math.Path.{refl, sym, ap, subst}
 use Rattle.std.proofs.Common.{◌∙◌}
 use Rattle.std.proofs.Math.Bool.{false}
