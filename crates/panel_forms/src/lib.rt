@@ -1,7 +1,7 @@
 // The forms of the lines of a panel's text.
 #![tactic(auto)]
 
-ghost use Rattle.std.specs.Prelude.{◌≡◌};
+ghost use Rattle.std.specs.Prelude.{◌≡◌, ◌≤◌, None, IfSome};
 ghost use Rattle.text_words.specs.Words.{words};
 ghost use Rattle.text_lines.specs.Lines.{lines, counted};
 ghost use Rattle.panel_forms.specs.Numbers.{kind_number};
@@ -56,9 +56,32 @@ fn are_established(l: &[u8]) -> bool
     text_kinds::is_word(l, 0, b"established") && bytes_behind(l)
 }
 
+// The kind of that number, from 0 on in their order.
+fn kind_of(n: u8) -> Option<LineKind>
+    ensures none { result ≡ None → 13 ≤ n }
+    ensures some { IfSome result (λ k. kind_number k ≡ n) }
+{
+    match n {
+        0 => Some(LineKind::Product),
+        1 => Some(LineKind::Version),
+        2 => Some(LineKind::Input),
+        3 => Some(LineKind::Size),
+        4 => Some(LineKind::Gamma),
+        5 => Some(LineKind::Features),
+        6 => Some(LineKind::Chroma),
+        7 => Some(LineKind::White),
+        8 => Some(LineKind::Established),
+        9 => Some(LineKind::Standard),
+        10 => Some(LineKind::Detailed),
+        11 => Some(LineKind::Descriptor),
+        12 => Some(LineKind::Extensions),
+        _ => None,
+    }
+}
+
 // Whether a line is of a kind.
 #[tactic(auto, unfolding(crate::specs::Forms::is_line))]
-pub fn is_line(l: &[u8], kind: LineKind) -> bool
+pub fn is_of(l: &[u8], kind: LineKind) -> bool
     ensures { result ≡ is_line (kind_number kind) l.now }
 {
     match kind {
@@ -84,5 +107,15 @@ pub fn is_line(l: &[u8], kind: LineKind) -> bool
             b"serial q h\ntext q h\nname q h\nundefined b x h\nmaker b x h\nrange h h w w w none h\nrange h h w w w gtf w b h b b h\nrange h h w w w other b x h",
         ),
         LineKind::Extensions => any_of(l, b"extensions b"),
+    }
+}
+
+// The same by the kind's number; none has a number above 12.
+pub fn is_line(l: &[u8], kind: u8) -> bool
+    ensures { result ≡ is_line kind l.now }
+{
+    match kind_of(kind) {
+        Some(kind) => is_of(l, kind),
+        None => false,
     }
 }

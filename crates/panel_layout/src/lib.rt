@@ -37,7 +37,7 @@ fn run(s: &[u8], from: usize, kind: LineKind, most: usize) -> usize
     ensures { (result ≡ run (kind_number kind) most (counted (lines s.now)) from) × (result ≤ most) }
 {
     (from..from + most)
-        .take_while(|&k| panel_forms::is_line(text_lines::content(s, k), kind))
+        .take_while(|&k| panel_forms::is_of(text_lines::content(s, k), kind))
         .count()
 }
 
@@ -61,7 +61,7 @@ fn placed(s: &[u8]) -> Places
 fn due(s: &[u8], k: usize, kind: LineKind) -> Result<(), usize>
     ensures { result ≡ due (kind_number kind) (counted (lines s.now)) k }
 {
-    if panel_forms::is_line(text_lines::content(s, k), kind) {
+    if panel_forms::is_of(text_lines::content(s, k), kind) {
         Ok(())
     } else {
         Err(k)
