@@ -22,10 +22,9 @@ one_more : (s : List ℕ) (seen i : ℕ) → i < length s → (eqb seen 0 && all
 one_more s zero i h = rw (drop-cons s i 0 h, add-one) refl
 one_more s (suc n) i h = rw (or_seen, ne_eqb (suc n) 0 (λ e. absurd (omega arith))) refl
 
-pub loop-i-preserved : goal.loop-i-preserved
-loop-i-preserved c =
-    (search rules, c.loop-i.invariant.1 ∙ one_more c.args.s.now c.loop-i.seen c.loop-i.i (search rules))
+pub loop-b-preserved : goal.loop-b-preserved
+loop-b-preserved c = c.loop-b.invariant ∙ one_more c.args.s.now c.loop-b.seen c.loop-b.b-index (search rules)
 
 pub returns : goal.returns
 returns c =
-    sym (rw (drop_of_length-le c.args.s.now {i = c.loop-i.i} (search rules), and-true) at c.loop-i.invariant.1)
+    sym (rw (drop_of_length-le c.args.s.now {i = c.loop-b.b-index} (search rules), and-true) at c.loop-b.invariant)

@@ -5,7 +5,6 @@ use lib.Seq.{length-take-le}
 use mathlib.Core.List.{List}
 use native.Mathlib.Omega.{arith}
 use borrow.Author.Rules.{rules}
-use borrow.Author.Tests.{not-true, not-false}
 use Rattle.register.proofs.Laws.{wrong_output, down_15, above_1, down_17, down_16, uncounted, down_0}
 use Rattle.register.proofs.step_down.Goals as goal
 
@@ -23,17 +22,17 @@ returns-then-count-gt1 c =
 
 pub returns-then-not-all_zero : goal.returns-then-not-all_zero
 returns-then-not-all_zero c =
-    down_17 (c.args.source.now) (c.args.output.now) c.if-output-ne136.false c.if-source-ne264.false (search rules) (sym c.all_zero.ensures ∙ not-true c.all_zero.result c.if-not-all_zero.true-raw)
+    down_17 (c.args.source.now) (c.args.output.now) c.if-output-ne136.false c.if-source-ne264.false (search rules) (search rules)
 
 pub returns-then-count-eq1 : goal.returns-then-count-eq1
 returns-then-count-eq1 c =
-    down_16 (c.args.source.now) (c.args.output.now) c.if-output-ne136.false c.if-source-ne264.false (search rules) (sym c.all_zero.ensures ∙ not-false c.all_zero.result c.if-not-all_zero.false-raw)
+    down_16 (c.args.source.now) (c.args.output.now) c.if-output-ne136.false c.if-source-ne264.false (search rules) (search rules)
 
 pub returns-then-not-all_zero-2 : goal.returns-then-not-all_zero-2
 returns-then-not-all_zero-2 c =
     uncounted (c.args.source.now) (c.args.output.now) c.if-output-ne136.false c.if-source-ne264.false (search rules)
-    (sym c.all_zero.ensures ∙ not-false c.all_zero.result c.if-not-all_zero.false-raw)
-    (sym c.all_zero-2.ensures ∙ not-true c.all_zero-2.result c.if-not-all_zero-2.true-raw)
+    (search rules)
+    (search rules)
 
 pub slice_bounds-copy_from_slice-end : goal.slice_bounds-copy_from_slice-end
 slice_bounds-copy_from_slice-end c = sym (length-take-le 136 c.args.source.now (omega arith))
@@ -47,5 +46,5 @@ returns c =
     let o = c.args.output.now in
     ap (λ (t : List ℕ). (0, t)) c.copy_from_slice.ensures.after
     ∙ down_0 s o c.if-output-ne136.false (λ i. omega (arith, c.type_inv.source i)) c.if-source-ne264.false (search rules)
-    (sym c.all_zero.ensures ∙ not-false c.all_zero.result c.if-not-all_zero.false-raw)
-    (sym c.all_zero-2.ensures ∙ not-false c.all_zero-2.result c.if-not-all_zero-2.false-raw)
+    (search rules)
+    (search rules)

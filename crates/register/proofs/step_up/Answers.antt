@@ -4,7 +4,7 @@ use mathlib.Core.Path.{refl, sym, ap, ◌∙◌}
 use lib.Seq.{length-take-le}
 use mathlib.Core.List.{List}
 use native.Mathlib.Omega.{arith}
-use borrow.Author.Tests.{not-true, not-false}
+use borrow.Author.Rules.{rules}
 use Rattle.register.proofs.Laws.{wrong_output, up_15, up_17, up_0, laid}
 use Rattle.register.proofs.step_up.Goals as goal
 
@@ -20,7 +20,7 @@ pub returns-then-not-all_zero : goal.returns-then-not-all_zero
 returns-then-not-all_zero c =
     let a = c.args in
     up_17 a.source.now a.output.now c.if-output-ne264.false c.if-source-ne136.false
-    (sym c.all_zero.ensures ∙ not-true c.all_zero.result c.if-not-all_zero.true-raw)
+    (search rules)
 
 pub slice_bounds-copy_from_slice-end-2 : goal.slice_bounds-copy_from_slice-end-2
 slice_bounds-copy_from_slice-end-2 c = sym (length-take-le 136 c.args.output.now (omega arith))
@@ -34,4 +34,4 @@ returns c =
     let o = c.args.output.now in
     ap (λ (t : List ℕ). (0, t)) (laid s o c.copy_from_slice.new.self c.copy_from_slice-2.new.self _ c.if-source-ne136.false c.if-output-ne264.false c.copy_from_slice.ensures.after c.copy_from_slice-2.ensures.after refl)
     ∙ up_0 s o c.if-output-ne264.false (λ i. omega (arith, c.type_inv.source i)) c.if-source-ne136.false
-    (sym c.all_zero.ensures ∙ not-false c.all_zero.result c.if-not-all_zero.false-raw)
+    (search rules)
