@@ -53,12 +53,11 @@ behind way m n l l₁ l₂ h h₁ h₂ Whole (s, size, read, (z, wrote)) (t, siz
   over,
   (told way m n l l₁ l₂ h h₁ h₂ s t size z ∙ z', written way m n l l₁ l₂ h h₁ h₂ s t size z wrote wrote'),
 )
-behind way m n l l₁ l₂ h h₁ h₂ (Refused index number) (s, size, read, (z, wrote)) (t, more, read', r, some, its, at, wrote') = (
+behind way m n l l₁ l₂ h h₁ h₂ (Refused index refusal) (s, size, read, (z, wrote)) (t, more, read', r, its, at, wrote') = (
   s ++ t,
   more,
   taken way m n l l₁ l₂ h h₁ h₂ s t size z more read read',
   whole_or_end way m l₂ s t size r,
-  some,
   told way m n l l₁ l₂ h h₁ h₂ s t size z ∙ its,
   omega (arith, at, counted way m n l l₁ l₂ h h₁ h₂ s t size z),
   written way m n l l₁ l₂ h h₁ h₂ s t size z wrote wrote',

@@ -7,6 +7,8 @@ use Rattle.std.proofs.lemmas.List.{take-append-le}
 use Rattle.std.proofs.lemmas.Bool.{false≢true}
 use mathlib.Core.List.{append-nil}
 use lib.Seq.{take-take}
+use Rattle.register.specs.Refusals.{refusal_number}
+use Rattle.register.specs.declared.StepRefusal.{StepRefusal}
 use Rattle.register_file.specs.File.{from_of, Converted, converted}
 use Rattle.register_file.specs.Laws.{no_records}
 use Rattle.register_file.specs.Run.{Records, Ends}
@@ -72,8 +74,8 @@ module _ (way : Way) (first from count end written records number : ℕ) (space 
   pub is_whole : number ≡ 0 → end ≡ count → count < 248 * from → IsAtEnd l' → Ends way first 248 l l' h h' Whole
   is_whole z e short over = (s, omega (arith, long_s, is_from, e, short), the_whole e, over, (its_number ∙ z, its_bytes))
 
-  pub is_refused : ((n : ℕ) × (end ≡ n * from)) ⊎ IsAtEnd l' → (number ≡ 0 → ⊥) → Ends way first 248 l l' h h' (Refused (first + records) number)
-  is_refused r some = (s, behind, in_two, whole_or_end r, some, its_number, ap (λ (n : ℕ). first + n) its_count, its_bytes)
+  pub is_refused : ((n : ℕ) × (end ≡ n * from)) ⊎ IsAtEnd l' → (why : StepRefusal) → number ≡ refusal_number why → Ends way first 248 l l' h h' (Refused (first + records) why)
+  is_refused r why is = (s, behind, in_two, whole_or_end r, its_number ∙ is, ap (λ (n : ℕ). first + n) its_count, its_bytes)
 
   pub is_read_failed : ((n : ℕ) × (end ≡ n * from)) → number ≡ 0 → count < end + from → Ends way first 248 l l' h h' (ReadFailed (first + records))
   is_read_failed r z cut =

@@ -10,6 +10,11 @@ use lib.ListN.{length, take, drop, length-append, length-drop, drop_of_length-le
 use lib.Seq.{take_all, take_at, take-length, drop-drop, length-take-le}
 use borrow.Author.Tests.{leb-true, leb-false}
 use lib.Dec.{leb}
+use Rattle.std.specs.Prelude.{Result, Ok, Err}
+use Rattle.std.specs.Result.{is_err}
+use Rattle.register.specs.declared.StepRefusal.{StepRefusal}
+use Rattle.register.specs.declared.StepRefusal.TheVariants.{WrongLength, HasExtension, WrongByte}
+use Rattle.register.specs.Refusals.{told}
 use Rattle.register.specs.Laws.{part_length}
 use Rattle.register.specs.Register.{Refused, Record, into}
 use Rattle.register.specs.Promises.{zero_accepts, nonzero_refuses}
@@ -67,6 +72,24 @@ module _ (way : Way) (s w : List ℕ) (at i : ℕ) where
         → ahead (w ++ t) (i + 1) (converted way n (drop next s)) ≡ ahead w i (converted way m (drop at s))
     goes_on t r = rw (taken, r)
         (ap₂ (λ (b : List ℕ) (c : ℕ). record { bytes = b; count = c; number = (converted way n (drop next s)).number }) (append_assoc w t (converted way n (drop next s)).bytes) (omega arith))
+
+-- ---- what a step tells
+
+pub ok_tells : (r : Result Unit StepRefusal) → is_err r ≡ false → told r ≡ 0
+ok_tells (Ok u) h = refl
+ok_tells (Err WrongLength) h = cc
+ok_tells (Err HasExtension) h = cc
+ok_tells (Err WrongByte) h = cc
+
+pub err_tells : (r : Result Unit StepRefusal) → is_err r ≡ true → told r ≡ 0 → ⊥
+err_tells (Ok u) h = λ e. cc
+err_tells (Err WrongLength) h = λ e. absurd (omega arith)
+err_tells (Err HasExtension) h = λ e. absurd (omega arith)
+err_tells (Err WrongByte) h = λ e. absurd (omega arith)
+
+pub not_err_tells : (r : Result Unit StepRefusal) → ((why : StepRefusal) → r ≡ Err why → ⊥) → told r ≡ 0
+not_err_tells (Ok u) h = refl
+not_err_tells (Err why) h = absurd (h why refl)
 
 -- ---- a turn of the loop
 

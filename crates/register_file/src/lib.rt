@@ -2,51 +2,53 @@
 // the memory is the same for a file of any length.
 #![tactic(auto)]
 
-ghost use Rattle.std.specs.Prelude.{◌+◌, ◌*◌, ◌<◌, ◌≤◌, min, ◌≡◌, ℕ, true, false, length, take};
+ghost use Rattle.std.specs.Prelude.{◌+◌, ◌*◌, ◌<◌, ◌≤◌, ◌≡◌, ℕ, true, false, length, take};
 ghost use Rattle.std.specs.Io.KnownBytes.{Consumes, IsAtEnd};
 ghost use Rattle.register.specs.Register.{into};
+ghost use Rattle.register.specs.Refusals.{told};
 ghost use Rattle.register_file.specs.File.{step_of, from_of, to_of, converted};
 ghost use Rattle.register_file.specs.Run.{Ends};
 
+use register::StepRefusal;
 use std::io::{Eprint, Read, Write};
 use std::os::fd::AsFd;
 
 // The records of a batch: as many as a buffer of 65,536 bytes has room for in their longer form.
 const BATCH: usize = 248;
 
-// A proved loop has to end, and nothing says that the input does: it counts to a number of records that no file has.
-const MOST: u64 = 9223372036854775808;
+// A proved loop has to end, and nothing says that the input does: it counts to a number of batches that no file has.
+const MOST: u64 = 72057594037927936;
 
 // The system's number for a file that is not open, EBADF.
 const NOT_OPEN: i32 = 9;
 
-// From the short form to the long one, or back.
+// From the short form to the long one, or back. A value and no trait: the theorems of specs (`there_and_back`) go from a way to the other one.
 #[derive(Clone, Copy)]
 pub enum Way {
     Up,
     Down,
 }
 
-// The records stepped, the bytes that they are now, and the number that the next one is refused with, 0 if there is none.
+// The records stepped, the bytes that they are now, and how the next one is refused, if it is.
 #[derive(Clone, Copy)]
 struct Batch {
     records: usize,
     written: usize,
-    number: u8,
+    outcome: Result<(), StepRefusal>,
 }
 
-// What a batch, or the whole file, came to: there may be more; it is whole; the index of a refused record, and the number; the index of the record at which a
-// read failed; the index of the first record of a batch whose write failed.
+// What a batch, or the whole file, came to: there may be more; it is whole; the index of a refused record, and why; the index of the record at which a
+// read failed; the index of the first record of a batch whose write failed. No Result: five outcomes, of which two are no error.
 #[derive(Clone, Copy)]
 enum End {
     More,
     Whole,
-    Refused(u64, u8),
+    Refused(u64, StepRefusal),
     ReadFailed(u64),
     WriteFailed(u64),
 }
 
-// The bytes that came, and whether a read failed then.
+// The bytes that came, and whether a read failed then. No Result: the count is told either way.
 #[derive(Clone, Copy)]
 struct Filled {
     count: usize,
@@ -75,8 +77,8 @@ fn to(way: Way) -> usize
     }
 }
 
-fn step(way: Way, source: &[u8], output: &mut [u8]) -> u8
-    ensures { (result, output.new) ≡ into (to_of way) output.old (step_of way source.now) }
+fn step(way: Way, source: &[u8], output: &mut [u8]) -> Result<(), StepRefusal>
+    ensures { (told result, output.new) ≡ into (to_of way) output.old (step_of way source.now) }
 {
     match way {
         Way::Up => register::step_up(source, output),
@@ -84,46 +86,45 @@ fn step(way: Way, source: &[u8], output: &mut [u8]) -> u8
     }
 }
 
-fn least(a: usize, b: usize) -> usize
-    ensures { result ≡ min a b }
-{
-    if a < b { a } else { b }
-}
-
 // Steps a batch, one record after the other.
 fn step_all(way: Way, source: &[u8], output: &mut [u8]) -> Batch
     requires { length output.old ≡ 65536 }
-    ensures { (result.records ≤ 248) × (result.written ≤ 65536) × (record { bytes = take result.written output.new; count = result.records; number = result.number } ≡ converted way 248 source.now) }
+    ensures { (result.records ≤ 248) × (result.written ≤ 65536) × (record { bytes = take result.written output.new; count = result.records; number = told result.outcome } ≡ converted way 248 source.now) }
 {
     let from = from(way);
     let to = to(way);
     let mut at: usize = 0;
     let mut end: usize = 0;
-    let mut i: usize = 0;
-    while i < BATCH && at < source.len() {
-        let next = least(at + from, source.len());
-        let number = step(way, &source[at..next], &mut output[end..end + to]);
-        if number != 0 {
+    for i in 0..BATCH {
+        if at == source.len() {
             return Batch {
                 records: i,
                 written: end,
-                number,
+                outcome: Ok(()),
+            };
+        }
+        let next = (at + from).min(source.len());
+        let outcome = step(way, &source[at..next], &mut output[end..end + to]);
+        if outcome.is_err() {
+            return Batch {
+                records: i,
+                written: end,
+                outcome,
             };
         }
         at = next;
         end += to;
-        i += 1;
     }
     Batch {
-        records: i,
+        records: BATCH,
         written: end,
-        number: 0,
+        outcome: Ok(()),
     }
 }
 
 // ---- input and output
 
-// Reads until the space is full, the input ends or a read fails.
+// Reads until the space is full, the input ends or a read fails. A `while`: a turn goes on by as many bytes as came.
 fn fill<R: Read>(input: &mut R, space: &mut [u8]) -> Filled
     ensures within { (result.count ≤ length space.old) × (length space.new ≡ length space.old) }
     ensures bytes { Consumes (R.remaining input.old) (R.remaining input.new) (take result.count space.new) }
@@ -177,7 +178,7 @@ fn convert_batch<R: Read, W: Write>(
     source: &mut [u8],
     output: &mut [u8],
 ) -> End
-    requires { (index < 9223372036854775808) × (length source.old ≡ 65536) × (length output.old ≡ 65536) }
+    requires { (index < 17870283321406128128) × (length source.old ≡ 65536) × (length output.old ≡ 65536) }
     ensures { Ends way index 248 (R.remaining input.old) (R.remaining input.new) (W.contents target.old) (W.contents target.new) result }
 {
     let from = from(way);
@@ -190,8 +191,8 @@ fn convert_batch<R: Read, W: Write>(
         return End::WriteFailed(index);
     }
     let next = index + batch.records as u64;
-    if batch.number != 0 {
-        return End::Refused(next, batch.number);
+    if let Err(refusal) = batch.outcome {
+        return End::Refused(next, refusal);
     }
     if came.failed {
         return End::ReadFailed(next);
@@ -208,10 +209,10 @@ fn convert_all<R: Read, W: Write>(input: &mut R, target: &mut W, way: Way) -> En
 {
     let mut source = [0u8; 65536];
     let mut output = [0u8; 65536];
-    let mut index: u64 = 0;
-    while index < MOST {
+    for number in 0..MOST {
+        let index = number * BATCH as u64;
         match convert_batch(input, target, way, index, &mut source, &mut output) {
-            End::More => index += BATCH as u64,
+            End::More => {}
             end => return end,
         }
     }
@@ -222,7 +223,10 @@ fn convert_all<R: Read, W: Write>(input: &mut R, target: &mut W, way: Way) -> En
 fn tell<E: Eprint>(errors: &E, end: End) {
     let _ = match end {
         End::More | End::Whole => Ok(()),
-        End::Refused(index, number) => eprintln!(errors; "{index} {number}"),
+        End::Refused(index, refusal) => {
+            let number = refusal.number();
+            eprintln!(errors; "{index} {number}")
+        }
         End::ReadFailed(index) => eprintln!(errors; "{index} read failed"),
         End::WriteFailed(index) => eprintln!(errors; "{index} write failed"),
     };

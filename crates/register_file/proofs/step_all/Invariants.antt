@@ -8,12 +8,8 @@ use Rattle.register_file.proofs.step_all.Given as goal
 
 abbrev pub invariant-loop-i : goal.invariant-loop-i
 invariant-loop-i l =
-    (l.i ≤ 248)
-    × (l.at ≤ length l.source)
+    (l.at ≤ length l.source)
     × (l.at ≤ 264 * l.i)
     × (l.end ≤ 264 * l.i)
     × (length l.output ≡ 65536)
     × (ahead (take l.end l.output) l.i (converted l.way (248 - l.i) (drop l.at l.source)) ≡ converted l.way 248 l.source)
-
-abbrev pub decreases-loop-i : goal.decreases-loop-i
-decreases-loop-i l = 248 - l.i
