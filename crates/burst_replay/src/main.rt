@@ -22,7 +22,7 @@ fn main(rt: HostRuntime) -> io::Result<()> {
     Ok(())
 }
 
-// What was read of a script.
+// What was read of a script: three ways, so no Option.
 #[derive(Clone, Copy)]
 enum Script {
     Whole,

@@ -33,7 +33,7 @@ pub struct Cta {
     pub timings: CtaTimings,
 }
 
-// The record, and beside it how its reading ended; the filler where it was refused.
+// The record, and beside it how its reading ended; the filler where it was refused, as the theorem `filler_beside_a_refusal` says: so it is no Result of a record.
 #[derive(Drop)]
 pub struct CtaReading {
     pub cta: Cta,

@@ -9,7 +9,7 @@ use standard_record::Descriptor;
 use standard_slots::Slot;
 use steps::Span;
 
-// Which block's is shown.
+// Which block's is shown: three ways, so no Option.
 #[derive(Clone, Copy)]
 pub enum Shown {
     Panel(Span),

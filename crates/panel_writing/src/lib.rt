@@ -10,10 +10,13 @@ use standard_record::StandardRecord;
 fn write(r: StandardRecord, bytes: &[u8; 39], out: &mut [u8]) -> u8
     ensures { Written r bytes.now out.old result out.new }
 {
-    standard_writing::write_standard(r, bytes, out)
+    match standard_writing::write_standard(r, bytes, out) {
+        Ok(()) => 0,
+        Err(refusal) => refusal.number(),
+    }
 }
 
-// 0 and the block; or the number of a refusal, which leaves the output as it was: 10 where that is not 128 bytes long, 19 where the text is not understood,
+// A number, which C is handed as it is: 0 and the block; or that of a refusal, which leaves the output as it was: 10 where that is not 128 bytes long, 19 where the text is not understood,
 // 11 where no block gives its record.
 pub fn block_of_text(text: &[u8], out: &mut [u8]) -> u8
     ensures { Answered text.now out.old result out.new }

@@ -24,10 +24,11 @@ fn rewrite(out: &mut [u8; 4096], s: &[u8]) -> usize {
 // The block, or the writer's refusal, which no record that was read is given.
 fn write(page: &mut Page, s: &[u8], edid: StandardRecord) {
     let mut block = [0u8; 128];
-    let number = standard_writing::write_standard(edid, s, &mut block);
-    if number == 0 {
-        page.bytes(&block);
-    } else {
-        shared_lines::refuse_line(page, Refusal { number, at: 0 });
+    match standard_writing::write_standard(edid, s, &mut block) {
+        Ok(()) => page.bytes(&block),
+        Err(refusal) => {
+            let number = refusal.number();
+            shared_lines::refuse_line(page, Refusal { number, at: 0 });
+        }
     }
 }

@@ -4,6 +4,7 @@
 #![tactic(auto)]
 
 use page::Page;
+use standard_writing::WriteRefusal;
 use standard_record::{Descriptor, Held, HeldPair, Ratio, StandardRecord, StandardTiming};
 use std::io;
 use std::io::Write;
@@ -52,9 +53,13 @@ fn main(rt: HostRuntime) -> io::Result<()> {
     rt.stdout().write_all(frames::start(&out, n))
 }
 
-fn tell(page: &mut Page, answer: u8, block: &[u8]) {
+fn tell(page: &mut Page, answer: Result<(), WriteRefusal>, block: &[u8]) {
+    let number = match answer {
+        Ok(()) => 0,
+        Err(refusal) => refusal.number(),
+    };
     page.bytes(b"answer");
-    page.field(answer);
+    page.field(number);
     page.newline();
     page.hex_span(block, 0, block.len());
     page.newline();

@@ -287,7 +287,7 @@ pub struct StandardRecord {
 // Accepted, or refused.
 pub type Verdict = Result<(), Refusal>;
 
-// The record, and beside it how its reading ended; the filler where it was refused.
+// The record, and beside it how its reading ended; the filler where it was refused, as the theorem `filler_beside_a_refusal` says: so it is no Result of a record.
 #[derive(Clone, Copy)]
 pub struct StandardReading {
     pub edid: StandardRecord,

@@ -19,6 +19,7 @@ ghost use Rattle.write_head.specs.Front.{front_bytes};
 ghost use Rattle.write_block.specs.Shown.{front_of};
 ghost use Rattle.write_block.specs.Gives.{Written};
 ghost use Rattle.standard_writing.specs.Filled.{SlotsFit, FrontFit, Filled};
+ghost use Rattle.standard_writing.specs.Refusals.{refusal_number, told};
 ghost use Rattle.standard_writing.specs.Places.{ahead, Small, Turned, UsedUp, many};
 
 use standard_parts::Structure;
@@ -43,7 +44,7 @@ struct Turn {
     after: Place,
 }
 
-// What the front comes to.
+// What the front comes to. No Option: the slots are filled, and judged, whether the front fits or not.
 #[derive(Clone, Copy)]
 struct Begun {
     fits: bool,
@@ -289,19 +290,37 @@ fn fill(block: &mut [u8], r: StandardRecord, lent: &[u8]) -> bool
     begun.fits & (timing_first(r) & slots)
 }
 
-// The block of r, whose spans point into the bytes lent: 0, or the number of a refusal, which leaves the output as it was.
-// It stays a number: `Written` of write_block and its theorems name 0, 10 and 11, and C is handed it as it is.
-pub fn write_standard(r: StandardRecord, lent: &[u8], out: &mut [u8]) -> u8
-    ensures { Written r lent.now out.old result out.new }
+// Why no block is written.
+#[derive(Clone, Copy, Debug, PartialEq, Eq)]
+pub enum WriteRefusal {
+    WrongLength,
+    NoBlock,
+}
+
+impl WriteRefusal {
+    // The number by which it is told.
+    pub fn number(self) -> u8
+        ensures { result ≡ refusal_number self }
+    {
+        match self {
+            WriteRefusal::WrongLength => 10,
+            WriteRefusal::NoBlock => 11,
+        }
+    }
+}
+
+// The block of r, whose spans point into the bytes lent; a refusal leaves the output as it was.
+pub fn write_standard(r: StandardRecord, lent: &[u8], out: &mut [u8]) -> Result<(), WriteRefusal>
+    ensures { Written r lent.now out.old (told result) out.new }
 {
     if out.len() != 128 {
-        return 10;
+        return Err(WriteRefusal::WrongLength);
     }
     let mut block = [0u8; 128];
     if fill(&mut block, r, lent) {
         lay(out, 0, &block);
-        0
+        Ok(())
     } else {
-        11
+        Err(WriteRefusal::NoBlock)
     }
 }

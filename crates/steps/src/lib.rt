@@ -10,7 +10,8 @@ pub struct Cursor<'a> {
     pub at: usize,
 }
 
-// The customer's numbers: `number` says why, `at` where.
+// `number` says why, `at` where. A number and no enum: the definitions refuse by number (`refuse 5`), theorems bound it (`refusal_2_to_9`), and the state that C
+// lends to `bursts` may hold any.
 #[derive(Clone, Copy, Debug, PartialEq, Eq)]
 pub struct Refusal {
     pub number: u8,

@@ -17,7 +17,7 @@ use standard_record::{
 };
 use write_leaf::{Leaf, OneByte, TwoBytes};
 
-// Code, serial number, week and year.
+// Code, serial number, week and year. No Option: `made` of `Writes` tells of the bytes where they do not fit too.
 #[derive(Clone, Copy)]
 struct NumberBytes {
     fits: bool,
@@ -31,6 +31,7 @@ struct NumberBytes {
     b17: u8,
 }
 
+// No Option: `made` of `Writes` tells of the bytes where they do not fit too.
 #[derive(Clone, Copy)]
 struct ColorBytes {
     fits: bool,
@@ -46,6 +47,7 @@ struct ColorBytes {
     b34: u8,
 }
 
+// No Option: `made` of `Writes` tells of the bytes where they do not fit too.
 #[derive(Clone, Copy)]
 struct FlagBytes {
     fits: bool,

@@ -8,7 +8,7 @@ ghost use Rattle.write_pairs.specs.Pairs.{most, pairs_ahead, WritesPairs};
 use standard_parts::Structure;
 use standard_record::{HeldPair, StandardTimings};
 
-// `many` is the length of the run.
+// `many` is the length of the run. No Option: `WritesPairs` tells of the bytes where they do not fit too.
 #[derive(Drop)]
 pub struct PairsBytes {
     pub fits: bool,
@@ -16,6 +16,7 @@ pub struct PairsBytes {
     pub many: usize,
 }
 
+// No Option, as of the run.
 #[derive(Clone, Copy)]
 struct HeldBytes {
     other: bool,

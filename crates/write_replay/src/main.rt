@@ -31,8 +31,8 @@ fn rewrite(page: &mut Page, s: &[u8]) {
 // The block, or the writer's refusal, which no record that was read is given.
 fn block_line(page: &mut Page, s: &[u8], edid: StandardRecord) {
     let mut block = [0u8; 128];
-    let number = standard_writing::write_standard(edid, s, &mut block);
-    if number != 0 {
+    if let Err(refusal) = standard_writing::write_standard(edid, s, &mut block) {
+        let number = refusal.number();
         return shared_lines::refuse_line(page, Refusal { number, at: 0 });
     }
     page.bytes(b"block ");

@@ -19,7 +19,7 @@ use steps::Span;
 use write_leaf::Leaf;
 use write_pairs::PairsBytes;
 
-// The two ends of a range, and the code of what is added to them.
+// The two ends of a range, and the code of what is added to them. No Option: `made` of `Writes` tells of the bytes where they do not fit too.
 #[derive(Clone, Copy)]
 struct EndsBytes {
     fits: bool,
@@ -28,7 +28,7 @@ struct EndsBytes {
     max: u8,
 }
 
-// The limits, and the byte of their offsets.
+// The limits, and the byte of their offsets. No Option, as of the ends.
 #[derive(Drop)]
 struct LimitsBytes {
     fits: bool,
