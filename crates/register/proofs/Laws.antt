@@ -1,28 +1,18 @@
 -- The steps as the code takes them: a long record with no extension is the short one and 128 zero bytes. Assumes nothing.
-use Prim.Native.Nat.{ℕ, ◌≤◌, ◌<◌, ◌-◌}
+use Prim.Native.Nat.{ℕ, ◌≤◌, ◌-◌}
 use mathlib.Core.Path.{◌≡◌, refl, sym, ap, ◌∙◌}
-use mathlib.Core.Bool.{true, false}
+use mathlib.Core.Bool.{true}
 use mathlib.Core.List.{List, ◌++◌}
 use native.Mathlib.Omega.{arith}
-use borrow.Author.Tests.{ne_eqb, le-leb, lt-leb}
 use borrow.Rule.Slice.PartMut.{put_mid}
 use lib.ListN.{length, take, drop, length-append, length-drop, drop_of_length-le}
 use lib.Seq.{take_all, take_at, drop_at}
 use Rattle.bits.specs.Bytes.{◌!◌, part}
 use Rattle.write_leaf.specs.Bytes.{Bytes}
-use Rattle.register.specs.Register.{zeros, Step, all_zero, step_up, step_down, into}
+use Rattle.register.specs.Register.{zeros, all_zero, step_up, step_down, into}
 use Rattle.register.proofs.Layouts.{start, starts_short}
 
-pub wrong_output : (size : ℕ) (o : List ℕ) (step : Step) → (length o ≡ size → ⊥) → (15, o) ≡ into size o step
-wrong_output size o step h = rw (ne_eqb (length o) size h) refl
-
 module _ (s o : List ℕ) (n : length o ≡ 264) where
-  pub up_15 : (length s ≡ 136 → ⊥) → (15, o) ≡ into 264 o (step_up s)
-  up_15 h = rw (n, ne_eqb (length s) 136 h) refl
-
-  pub up_17 : length s ≡ 136 → all_zero (part s 4 4) ≡ false → (17, o) ≡ into 264 o (step_up s)
-  up_17 h z = rw (n, h, z) refl
-
   pub up_0 : Bytes s → length s ≡ 136 → all_zero (part s 4 4) ≡ true → (0, s ++ zeros 128) ≡ into 264 o (step_up s)
   up_0 b h z = rw (n, h, z) (ap (λ (t : List ℕ). (0, t ++ zeros 128)) (sym (take_all 136 s (omega arith)) ∙ starts_short s b (omega arith) z))
 
@@ -35,20 +25,5 @@ laid s o l m k n h el em ek =
     rw (el, em, take_at s rest 136 n, drop_at s rest 136 n, drop_of_length-le rest {i = k} size) refl
 
 module _ (s o : List ℕ) (n : length o ≡ 136) where
-  pub down_15 : (length s ≡ 264 → ⊥) → (15, o) ≡ into 136 o (step_down s)
-  down_15 h = rw (n, ne_eqb (length s) 264 h) refl
-
-  pub above_1 : length s ≡ 264 → 1 < s ! 4 → (17, o) ≡ into 136 o (step_down s)
-  above_1 h c = rw (n, h, lt-leb (s ! 4) 1 c) refl
-
-  pub down_17 : length s ≡ 264 → s ! 4 ≤ 1 → all_zero (part s 5 3) ≡ false → (17, o) ≡ into 136 o (step_down s)
-  down_17 h c z = rw (n, h, le-leb (s ! 4) 1 c, z) refl
-
-  pub down_16 : length s ≡ 264 → s ! 4 ≡ 1 → all_zero (part s 5 3) ≡ true → (16, o) ≡ into 136 o (step_down s)
-  down_16 h c z = rw (n, h, c, z) refl
-
-  pub uncounted : length s ≡ 264 → s ! 4 ≡ 0 → all_zero (part s 5 3) ≡ true → all_zero (part s 136 128) ≡ false → (17, o) ≡ into 136 o (step_down s)
-  uncounted h c z x = rw (n, h, c, z, x) refl
-
   pub down_0 : Bytes s → length s ≡ 264 → s ! 4 ≡ 0 → all_zero (part s 5 3) ≡ true → all_zero (part s 136 128) ≡ true → (0, take 136 s) ≡ into 136 o (step_down s)
   down_0 b h c z x = rw (n, h, c, z, x) (ap (λ (t : List ℕ). (0, t)) (rw c at (start s b (omega arith) z)))

@@ -1,26 +1,12 @@
--- `register::step_up` meets its contract: each answer by its test. Assumes nothing.
+-- `register::step_up` meets its contract: what the copies leave is the record stepped. Assumes nothing.
 use Prim.Native.Nat.{ℕ}
 use mathlib.Core.Path.{refl, sym, ap, ◌∙◌}
 use lib.Seq.{length-take-le}
 use mathlib.Core.List.{List}
 use native.Mathlib.Omega.{arith}
 use borrow.Author.Rules.{rules}
-use Rattle.register.proofs.Laws.{wrong_output, up_15, up_17, up_0, laid}
+use Rattle.register.proofs.Laws.{up_0, laid}
 use Rattle.register.proofs.step_up.Goals as goal
-
-pub returns-then-output-ne264 : goal.returns-then-output-ne264
-returns-then-output-ne264 c = wrong_output 264 _ _ c.if-output-ne264.true
-
-pub returns-then-source-ne136 : goal.returns-then-source-ne136
-returns-then-source-ne136 c =
-    let a = c.args in
-    up_15 a.source.now a.output.now c.if-output-ne264.false c.if-source-ne136.true
-
-pub returns-then-not-all_zero : goal.returns-then-not-all_zero
-returns-then-not-all_zero c =
-    let a = c.args in
-    up_17 a.source.now a.output.now c.if-output-ne264.false c.if-source-ne136.false
-    (search rules)
 
 pub slice_bounds-copy_from_slice-end-2 : goal.slice_bounds-copy_from_slice-end-2
 slice_bounds-copy_from_slice-end-2 c = sym (length-take-le 136 c.args.output.now (omega arith))
