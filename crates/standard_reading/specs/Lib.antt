@@ -2,6 +2,7 @@
 pub mod Slots
 pub mod Block
 pub mod Lists
+pub mod Filling
 pub mod Judged
 pub mod Room
 pub mod Entries

@@ -1,13 +1,17 @@
 // The standard reading of a block: judged in the order of the refusals, 7, 2, 8, 9, then slot after slot; each slot is looked at once.
 #![tactic(auto)]
 
-ghost use Rattle.std.specs.Prelude.{◌≡◌, length, Ok, Err};
+ghost use Rattle.std.specs.Prelude.{◌≡◌, ◌+◌, ◌*◌, ◌≤◌, length, Ok, Err};
 ghost use Rattle.standard_record.specs.Filler.{blank};
 ghost use Rattle.standard_verdict.specs.Verdict.{before_slots};
 ghost use Rattle.standard_reading.specs.Block.{record_of, standard_of};
 ghost use Rattle.standard_reading.specs.Lists.{ListsOf};
+ghost use Rattle.standard_reading.specs.Filling.{with_pairs, with_slot};
+ghost use Rattle.standard_slots.specs.Said.{pairs_at, pairs_in};
+ghost use Rattle.standard_slots.specs.Answers.{of_slot};
 
 use shared_record::Version;
+use standard_parts::Structure;
 use standard_record::{
     BLANK_DETAILED, BLANK_HELD, BLANK_STANDARD, BLANK_WHITE, Color, Descriptors, DetailedTimings,
     Held, HeldPair, HeldPoint, HeldTiming, StandardReading, StandardRecord, StandardTimings,
@@ -16,18 +20,40 @@ use standard_record::{
 use standard_slots::{Points, Slot};
 use steps::Refusal;
 
+// What a block lists.
+#[derive(Clone, Copy)]
+struct Lists {
+    standard: StandardTimings,
+    detailed: DetailedTimings,
+    points: WhitePoints,
+    descriptors: Descriptors,
+}
+
+const NO_ENTRIES: Lists = Lists {
+    standard: StandardTimings {
+        items: [BLANK_STANDARD; 26],
+        len: 0,
+    },
+    detailed: DetailedTimings {
+        items: [BLANK_DETAILED; 4],
+        len: 0,
+    },
+    points: WhitePoints {
+        items: [BLANK_WHITE; 6],
+        len: 0,
+    },
+    descriptors: Descriptors {
+        items: [BLANK_HELD; 3],
+        len: 0,
+    },
+};
+
 // ---- the answers
 
 // The lists are those that the block says.
 #[tactic(auto, unfolding(crate::specs::Block::record_of))]
-fn record_of(
-    s: &[u8],
-    points: WhitePoints,
-    standard: StandardTimings,
-    detailed: DetailedTimings,
-    descriptors: Descriptors,
-) -> StandardRecord
-    requires { ListsOf s.now points standard detailed descriptors }
+fn record_of(s: &[u8], lists: Lists) -> StandardRecord
+    requires { ListsOf s.now lists.points lists.standard lists.detailed lists.descriptors }
     ensures { result ≡ record_of s.now }
 {
     StandardRecord {
@@ -39,14 +65,14 @@ fn record_of(
         display: standard_head::display_in(s),
         color: Color {
             basic: standard_head::colors_in(s),
-            points,
+            points: lists.points,
         },
         timings: Timings {
             established: standard_parts::established_of(s[35], s[36], s[37]),
-            standard,
-            detailed,
+            standard: lists.standard,
+            detailed: lists.detailed,
         },
-        descriptors,
+        descriptors: lists.descriptors,
         extensions: s[126],
     }
 }
@@ -62,28 +88,55 @@ fn refuse(f: Refusal) -> StandardReading
 
 // ---- the slots
 
-// The eight pairs, then slot after slot. The lists are local arrays that this function alone fills: no call takes or returns one, but for the
-// answer, and so the two loops over pairs are not one function (docs/DECISIONS.md 13). The length is required to have it at hand.
+// n pairs from the place `from` on, each onto the list.
+fn list_pairs(
+    list: &mut StandardTimings,
+    structure: Structure,
+    t: &[u8],
+    from: usize,
+    n: usize,
+    slot: u16,
+)
+    requires { (from + 2 * n ≤ length t.now) × (length t.now ≤ 128) }
+    ensures { list.new ≡ with_pairs list.old slot (pairs_at structure t.now from n) }
+{
+    for k in 0..n {
+        let a = from + 2 * k;
+        if let Some(pair) = standard_parts::pair_of(structure, t[a], t[a + 1]) {
+            list.push(HeldPair { pair, slot });
+        }
+    }
+}
+
+impl Lists {
+    // What a slot of the bytes t says; an fa slot's pairs are read here.
+    fn list_slot(&mut self, says: Slot, structure: Structure, t: &[u8], slot: u16)
+        requires { length t.now ≡ 18 }
+        ensures { self.new ≡ with_slot self.old slot (of_slot (pairs_in structure t.now) (Ok says)) }
+    {
+        match says {
+            Slot::Nothing => {}
+            Slot::Timing(timing) => self.detailed.push(HeldTiming { timing, slot }),
+            Slot::Pairs => list_pairs(&mut self.standard, structure, t, 5, 6, slot),
+            Slot::Points(Points::None) => {}
+            Slot::Points(Points::One(point)) => self.points.push(HeldPoint { point, slot }),
+            Slot::Points(Points::Two(p, q)) => {
+                self.points.push(HeldPoint { point: p, slot });
+                self.points.push(HeldPoint { point: q, slot });
+            }
+            Slot::Described(descriptor) => self.descriptors.push(Held { descriptor, slot }),
+        }
+    }
+}
+
+// The eight pairs, then slot after slot. The length is required to have it at hand.
 fn read_slots(s: &[u8]) -> StandardReading
     requires { (length s.now ≡ 128) × (before_slots s.now ≡ Ok tt) }
     ensures { result ≡ standard_of s.now }
 {
     let structure = standard_parts::structure_of(s[19]);
-    let mut standards = [BLANK_STANDARD; 26];
-    let mut listed = 0;
-    for k in 0..8 {
-        let a = 38 + 2 * k;
-        if let Some(pair) = standard_parts::pair_of(structure, s[a], s[a + 1]) {
-            standards[listed] = HeldPair { pair, slot: 0 };
-            listed += 1;
-        }
-    }
-    let mut timings = [BLANK_DETAILED; 4];
-    let mut timed = 0;
-    let mut points = [BLANK_WHITE; 6];
-    let mut pointed = 0;
-    let mut entries = [BLANK_HELD; 3];
-    let mut entered = 0;
+    let mut lists = NO_ENTRIES;
+    list_pairs(&mut lists.standard, structure, s, 38, 8, 0);
     for i in 0..4u8 {
         let at = 54 + 18 * i;
         let from = at as usize;
@@ -93,58 +146,9 @@ fn read_slots(s: &[u8]) -> StandardReading
             Ok(says) => says,
             Err(number) => return refuse(Refusal { number, at: from }),
         };
-        match says {
-            Slot::Nothing => {}
-            Slot::Timing(timing) => {
-                timings[timed] = HeldTiming { timing, slot };
-                timed += 1;
-            }
-            Slot::Pairs => {
-                for k in 0..6 {
-                    let a = 5 + 2 * k;
-                    if let Some(pair) = standard_parts::pair_of(structure, t[a], t[a + 1]) {
-                        standards[listed] = HeldPair { pair, slot };
-                        listed += 1;
-                    }
-                }
-            }
-            Slot::Points(ps) => match ps {
-                Points::None => {}
-                Points::One(point) => {
-                    points[pointed] = HeldPoint { point, slot };
-                    pointed += 1;
-                }
-                Points::Two(p, q) => {
-                    points[pointed] = HeldPoint { point: p, slot };
-                    points[pointed + 1] = HeldPoint { point: q, slot };
-                    pointed += 2;
-                }
-            },
-            Slot::Described(descriptor) => {
-                entries[entered] = Held { descriptor, slot };
-                entered += 1;
-            }
-        }
+        lists.list_slot(says, structure, t, slot);
     }
-    let edid = record_of(
-        s,
-        WhitePoints {
-            items: points,
-            len: pointed,
-        },
-        StandardTimings {
-            items: standards,
-            len: listed,
-        },
-        DetailedTimings {
-            items: timings,
-            len: timed,
-        },
-        Descriptors {
-            items: entries,
-            len: entered,
-        },
-    );
+    let edid = record_of(s, lists);
     StandardReading { edid, end: Ok(()) }
 }
 
