@@ -5,46 +5,43 @@ use mathlib.Core.Path.{◌≡◌, refl, ap, ◌∙◌}
 use mathlib.Core.Bool.{true, false}
 use mathlib.Core.List.{List, [], ◌∷◌, ◌++◌, flat_map}
 use native.Mathlib.Omega.{arith}
-use lib.ListN.{length, length-append}
+use lib.ListN.{length}
 use borrow.Author.Tests.{lt-ltb, le-ltb, le-leb, lt-leb}
 use Rattle.bits.specs.Bytes.{part}
-use Rattle.fixed.specs.Gather.{Holds, held_at_most}
+use Rattle.fixed.specs.Fixed.{fixed, push, push_fixed, pushed, pushed_fixed}
 use Rattle.standard_record.specs.Filler.{blank_timing}
 use Rattle.standard_record.specs.declared.DetailedTiming.{DetailedTiming}
 use Rattle.standard_timing.specs.Timing.{timing_in}
 use Rattle.standard_verdict.specs.Verdict.{refused_at}
 use Rattle.cta_record.specs.Filler.{blank_block}
-use Rattle.cta_record.specs.declared.DataBlock.{DataBlock}
+use Rattle.cta_record.specs.Lists.{VideoDescriptors, DataBlocks, CtaTimings}
 use Rattle.cta_reading.specs.Along.{first, Row, none, first_append, row_snoc, all_passed, refused_here}
 use Rattle.cta_reading.specs.Cta.{offset_in, end_at, blocks_in, judge_block, video_at, block_at, is_timing, timings_in, judge_timing, judged, timing_at, before_blocks, plain}
 use Rattle.cta_reading.specs.Lists.{BlocksOf}
 use Rattle.cta_reading.specs.Judged.{BlocksUpTo, start, start_bounds, timing_ends, timings_from}
 use Rattle.cta_reading.proofs.Judged.{head_of, below_128}
-use Rattle.cta_reading.specs.Room.{Few, few, flat_snoc, flat_at_most, timing_1, spaced}
+use Rattle.cta_reading.specs.Room.{Few, few, flat_snoc, spaced}
 
 -- ---- data blocks
 
--- the walk has come to p, and the arrays and counts hold what the blocks say that it has passed
-pub record Blocks (s : List ℕ) (video : List ℕ) (shown : ℕ) (blocks : List DataBlock) (count p : ℕ) : Type 0 where
+-- the walk has come to p, and the lists are what the blocks say that it has passed
+pub record Blocks (s : List ℕ) (video : VideoDescriptors) (blocks : DataBlocks) (p : ℕ) : Type 0 where
   pub ps : List ℕ
   pub row : BlocksUpTo s ps p
   pub fair : first (judge_block s) ps ≡ Ok tt
-  pub bytes : Holds 119 0 (flat_map (video_at s) ps) video shown
-  pub others : Holds 123 blank_block (flat_map (block_at s) ps) blocks count
+  pub bytes : video ≡ fixed 119 0 (flat_map (video_at s) ps)
+  pub others : blocks ≡ fixed 123 blank_block (flat_map (block_at s) ps)
 
-pub no_blocks : (s : List ℕ) {video : List ℕ} {blocks : List DataBlock} → Holds 119 0 [] video 0 → Holds 123 blank_block [] blocks 0 → Blocks s video 0 blocks 0 4
+pub no_blocks : (s : List ℕ) → Blocks s (fixed 119 0 []) (fixed 123 blank_block []) 4
 unfolding flat_map
-no_blocks s h k = record { ps = []; row = none; fair = refl; bytes = h; others = k }
+no_blocks s = record { ps = []; row = none; fair = refl; bytes = refl; others = refl }
 
-module _ {s : List ℕ} {video : List ℕ} {shown : ℕ} {blocks : List DataBlock} {count p : ℕ} (before : before_blocks s ≡ Ok tt) (w : Blocks s video shown blocks count p) (on : p < offset_in s) where
+module _ {s : List ℕ} {video : VideoDescriptors} {blocks : DataBlocks} {p : ℕ} (before : before_blocks s ≡ Ok tt) (w : Blocks s video blocks p) (on : p < offset_in s) where
   so_far : Few s w.ps p
   so_far = few s w.row (omega (arith, below_128 s before))
 
   blocks_left : length w.ps < 123
   blocks_left = omega (arith, so_far.all, below_128 s before)
-
-  pub block_room : count < 123
-  block_room = omega (arith, held_at_most w.others, so_far.blocks, blocks_left)
 
   pub block_past : offset_in s < end_at s p → first (judge_block s) (blocks_in s) ≡ refused_at 13 p
   unfolding blocks_in
@@ -54,33 +51,24 @@ module _ {s : List ℕ} {video : List ℕ} {shown : ℕ} {blocks : List DataBloc
     row_on : BlocksUpTo s (w.ps ++ p ∷ []) (end_at s p)
     row_on = row_snoc w.row (lt-ltb _ _ on)
 
-    pub video_fits : shown + length (video_at s p) ≤ 119
-    video_fits =
-        let all = few s row_on (omega (arith, below_128 s before)) in
-        omega (
-          arith,
-          held_at_most w.bytes,
-          all.video,
-          ap length (flat_snoc (video_at s) w.ps p),
-          length-append (flat_map (video_at s) w.ps) (video_at s p),
-        )
-
-    pub block_more : {video' : List ℕ} {shown' : ℕ} {blocks' : List DataBlock} {count' : ℕ}
-        → Holds 119 0 (flat_map (video_at s) w.ps ++ video_at s p) video' shown'
-        → Holds 123 blank_block (flat_map (block_at s) w.ps ++ block_at s p) blocks' count' → Blocks s video' shown' blocks' count' (end_at s p)
+    pub block_more : {video' : VideoDescriptors} {blocks' : DataBlocks} → video' ≡ pushed (push 119) video (video_at s p)
+        → blocks' ≡ pushed (push 123) blocks (block_at s p) → Blocks s video' blocks' (end_at s p)
     block_more h k =
         record {
           ps = w.ps ++ p ∷ [];
           row = row_on;
           fair = first_append (judge_block s) w.ps (p ∷ []) w.fair ∙ rw (le-leb (end_at s p) (offset_in s) inside);
-          bytes = rw flat_snoc h;
-          others = rw flat_snoc k;
+          bytes =
+              rw flat_snoc (h ∙ ap (λ l. pushed (push 119) l (video_at s p)) w.bytes ∙ pushed_fixed 119 0 (flat_map (video_at s) w.ps) (video_at s p));
+          others =
+              rw flat_snoc (
+              k ∙ ap (λ l. pushed (push 123) l (block_at s p)) w.others ∙ pushed_fixed 123 blank_block (flat_map (block_at s) w.ps) (block_at s p)
+              );
         }
 
 -- the walk has come to its end
-pub blocks_are : {s : List ℕ} {video : List ℕ} {shown : ℕ} {blocks : List DataBlock} {count p : ℕ} → length s ≡ 128 → before_blocks s ≡ Ok tt
-    → Blocks s video shown blocks count p → p ≤ 127 → offset_in s ≤ p
-    → BlocksOf s (record { items = video; len = shown }) (record { items = blocks; len = count })
+pub blocks_are : {s : List ℕ} {video : VideoDescriptors} {blocks : DataBlocks} {p : ℕ} → length s ≡ 128 → before_blocks s ≡ Ok tt
+    → Blocks s video blocks p → p ≤ 127 → offset_in s ≤ p → BlocksOf s video blocks
 unfolding blocks_in
 blocks_are {s} whole before w last off =
     let all = all_passed 123 w.row (omega (arith, (few s w.row last).all)) (le-ltb _ _ off) in
@@ -88,51 +76,48 @@ blocks_are {s} whole before w last off =
       whole = whole;
       before = before;
       fair = rw all w.fair;
-      video = rw all (λ i. record { items = w.bytes.are i; len = w.bytes.many i });
-      blocks = rw all (λ i. record { items = w.others.are i; len = w.others.many i });
+      video = rw all w.bytes;
+      blocks = rw all w.others;
     }
 
 -- ---- timings
 
--- the walk has come to p, and the array and count hold the timings that it has passed
-pub record Timings (s : List ℕ) (items : List DetailedTiming) (len p : ℕ) : Type 0 where
+-- the walk has come to p, and the list is of the timings that it has passed
+pub record Timings (s : List ℕ) (timings : CtaTimings) (p : ℕ) : Type 0 where
   pub ps : List ℕ
   pub row : Row (is_timing s) (λ p. p + 18) (start (offset_in s)) ps p
   pub fair : first (judge_timing s) ps ≡ Ok tt
-  pub held : Holds 6 blank_timing (flat_map (timing_at s) ps) items len
+  pub held : timings ≡ fixed 6 blank_timing (flat_map (timing_at s) ps)
 
-pub no_timings : (s : List ℕ) {items : List DetailedTiming} → Holds 6 blank_timing [] items 0 → Timings s items 0 (start (offset_in s))
+pub no_timings : (s : List ℕ) → Timings s (fixed 6 blank_timing []) (start (offset_in s))
 unfolding flat_map
-no_timings s h = record { ps = []; row = none; fair = refl; held = h }
+no_timings s = record { ps = []; row = none; fair = refl; held = refl }
 
-module _ {s : List ℕ} {items : List DetailedTiming} {len p : ℕ} (before : before_blocks s ≡ Ok tt) (w : Timings s items len p) (on : is_timing s p ≡ true) where
+module _ {s : List ℕ} {timings : CtaTimings} {p : ℕ} (before : before_blocks s ≡ Ok tt) (w : Timings s timings p) (on : is_timing s p ≡ true) where
   timings_left : length w.ps < 6
   timings_left =
       omega (arith, spaced w.row, timing_ends s p on, start_bounds (offset_in s) (head_of s before).offset)
 
-  pub timing_room : len < 6
-  timing_room = omega (arith, held_at_most w.held, flat_at_most (timing_at s) 1 (timing_1 s) w.ps, timings_left)
-
-  pub timing_more : {t : DetailedTiming} {items' : List DetailedTiming} {len' : ℕ} → timing_in (part s p 18) ≡ Some t
-      → (len < 6 → Holds 6 blank_timing (flat_map (timing_at s) w.ps ++ t ∷ []) items' len') → Timings s items' len' (p + 18)
-  timing_more e h =
+  pub timing_more : {t : DetailedTiming} {timings' : CtaTimings} → timing_in (part s p 18) ≡ Some t → timings' ≡ push 6 timings t
+      → Timings s timings' (p + 18)
+  timing_more {t} e pushes =
       record {
         ps = w.ps ++ p ∷ [];
         row = row_snoc w.row on;
         fair = first_append (judge_timing s) w.ps (p ∷ []) w.fair ∙ rw e;
-        held = rw (flat_snoc, e) (h timing_room);
+        held = rw (flat_snoc, e) (pushes ∙ ap (λ l. push 6 l t) w.held ∙ push_fixed 6 blank_timing t (flat_map (timing_at s) w.ps));
       }
 
   pub timing_over : timing_in (part s p 18) ≡ None → first (judge_timing s) (timings_in s) ≡ refused_at 6 p
   timing_over e = rw timings_from (refused_here (judge_timing s) 6 w.row w.fair timings_left on (ap (judged p) e))
 
-pub record TimingsOf (s : List ℕ) (items : List DetailedTiming) (len : ℕ) : Type 0 where
+pub record TimingsOf (s : List ℕ) (timings : CtaTimings) : Type 0 where
   pub fair : first (judge_timing s) (timings_in s) ≡ Ok tt
-  pub held : Holds 6 blank_timing (plain s).timings items len
+  pub held : timings ≡ fixed 6 blank_timing (plain s).timings
 
 -- the walk has come to its end
-pub timings_are : {s : List ℕ} {items : List DetailedTiming} {len p : ℕ} → before_blocks s ≡ Ok tt → Timings s items len p → p ≤ 127
-    → is_timing s p ≡ false → TimingsOf s items len
+pub timings_are : {s : List ℕ} {timings : CtaTimings} {p : ℕ} → before_blocks s ≡ Ok tt → Timings s timings p → p ≤ 127
+    → is_timing s p ≡ false → TimingsOf s timings
 timings_are {s} before w last off =
     let six : length w.ps ≤ 6 = omega (arith, spaced w.row, start_bounds (offset_in s) (head_of s before).offset) in
     let all = timings_from s ∙ all_passed 6 w.row six off in

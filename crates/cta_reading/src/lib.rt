@@ -2,8 +2,8 @@
 // after timing, 6; each of them is looked at once.
 #![tactic(auto)]
 
-ghost use Rattle.std.specs.Prelude.{◌+◌, ◌≤◌, ◌≡◌, List, ◌++◌, length, Ok, Err};
-ghost use Rattle.fixed.specs.Gather.{Holds};
+ghost use Rattle.std.specs.Prelude.{◌≡◌, length, Ok, Err};
+ghost use Rattle.fixed.specs.Fixed.{push, pushed};
 ghost use Rattle.cta_record.specs.Filler.{blank};
 ghost use Rattle.cta_reading.specs.Cta.{is_offset, is_timing, before_blocks, cta_of};
 ghost use Rattle.cta_reading.specs.Judged.{start};
@@ -63,16 +63,15 @@ fn read_timings(s: &[u8], video: VideoDescriptors, blocks: DataBlocks) -> CtaRea
     ensures { result ≡ cta_of s.now }
 {
     let offset = s[2];
-    let mut timings = [BLANK_TIMING; 6];
-    let mut timed = 0;
+    let mut timings = CtaTimings {
+        items: [BLANK_TIMING; 6],
+        len: 0,
+    };
     let mut p = first_timing(offset);
     while is_timing(s, p) {
         match standard_timing::timing_in(bits::part(s, p, 18)) {
             None => return refuse(Refusal { number: 6, at: p }),
-            Some(timing) => {
-                timings[timed] = timing;
-                timed += 1;
-            }
+            Some(timing) => timings.push(timing),
         }
         p += 18;
     }
@@ -83,10 +82,7 @@ fn read_timings(s: &[u8], video: VideoDescriptors, blocks: DataBlocks) -> CtaRea
             support: s[3],
             video,
             blocks,
-            timings: CtaTimings {
-                items: timings,
-                len: timed,
-            },
+            timings,
         },
         end: Ok(()),
     }
@@ -94,15 +90,13 @@ fn read_timings(s: &[u8], video: VideoDescriptors, blocks: DataBlocks) -> CtaRea
 
 // ---- data blocks
 
-// The bytes of `run` behind the first n of `video`; how many there are then.
-fn append(video: &mut [u8; 119], n: usize, run: &[u8]) -> usize
-    requires { n + length run.now ≤ 119 }
-    ensures { (xs : List _) → Holds 119 0 xs video.old n → Holds 119 0 (xs ++ run.now) video.new result }
+// The bytes of `run` go behind those of `video`.
+fn append(video: &mut VideoDescriptors, run: &[u8])
+    ensures { video.new ≡ pushed (push 119) video.old run.now }
 {
     for i in 0..run.len() {
-        video[n + i] = run[i];
+        video.push(run[i]);
     }
-    n + run.len()
 }
 
 fn read_blocks(s: &[u8]) -> CtaReading
@@ -110,10 +104,14 @@ fn read_blocks(s: &[u8]) -> CtaReading
     ensures { result ≡ cta_of s.now }
 {
     let offset = s[2] as usize;
-    let mut video = [0u8; 119];
-    let mut shown = 0;
-    let mut blocks = [BLANK_BLOCK; 123];
-    let mut listed = 0;
+    let mut video = VideoDescriptors {
+        items: [0u8; 119],
+        len: 0,
+    };
+    let mut blocks = DataBlocks {
+        items: [BLANK_BLOCK; 123],
+        len: 0,
+    };
     let mut p: usize = 4;
     while p < offset {
         let tag = bits::digits(s[p], 5, 3);
@@ -124,27 +122,16 @@ fn read_blocks(s: &[u8]) -> CtaReading
             return refuse(Refusal { number: 13, at: p });
         }
         if tag == 2 {
-            shown = append(&mut video, shown, &s[start..end]);
+            append(&mut video, &s[start..end]);
         } else {
-            blocks[listed] = DataBlock {
+            blocks.push(DataBlock {
                 tag,
                 run: Span { start, len },
-            };
-            listed += 1;
+            });
         }
         p = end;
     }
-    read_timings(
-        s,
-        VideoDescriptors {
-            items: video,
-            len: shown,
-        },
-        DataBlocks {
-            items: blocks,
-            len: listed,
-        },
-    )
+    read_timings(s, video, blocks)
 }
 
 pub fn read_cta(s: &[u8]) -> CtaReading

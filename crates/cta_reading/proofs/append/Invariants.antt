@@ -1,9 +1,9 @@
--- `cta_reading::append` meets its contract. The invariant: behind what was held, the first i bytes of the run are. Assumes nothing.
-use Prim.Native.Nat.{ℕ, ◌+◌, ◌≤◌}
-use mathlib.Core.List.{List, ◌++◌}
+-- `cta_reading::append` meets its contract. The invariant: the first i bytes of the run are pushed. Assumes nothing.
+use Prim.Native.Nat.{◌≤◌}
+use mathlib.Core.Path.{◌≡◌}
 use lib.ListN.{length, take}
-use Rattle.fixed.specs.Gather.{Holds}
+use Rattle.fixed.specs.Fixed.{push, pushed}
 use Rattle.cta_reading.proofs.append.Given as goal
 
 abbrev pub invariant-loop-i : goal.invariant-loop-i
-invariant-loop-i l = (l.i ≤ length l.run) × ((xs : List ℕ) → Holds 119 0 xs l.initial.video l.n → Holds 119 0 (xs ++ take l.i l.run) l.video (l.n + l.i))
+invariant-loop-i l = (l.i ≤ length l.run) × (l.video ≡ pushed (push 119) l.initial.video (take l.i l.run))

@@ -1,35 +1,20 @@
--- `cta_reading::read_timings` meets its contract. The invariant: the array and its count hold the timings passed. Assumes nothing.
-use Prim.Native.Nat.{ℕ, ◌<◌}
-use mathlib.Core.Path.{◌≡◌, refl, sym, ap, ◌∙◌}
+-- `cta_reading::read_timings` meets its contract. The invariant: the list is of the timings passed. Assumes nothing.
+use Prim.Native.Nat.{ℕ}
+use mathlib.Core.Path.{◌≡◌, sym, ap, ◌∙◌}
 use mathlib.Core.Bool.{true}
 use mathlib.Core.List.{List}
 use native.Mathlib.Omega.{arith}
-use Rattle.fixed.specs.Gather.{took}
 use Rattle.standard_timing.specs.Timing.{timing_in}
 use Rattle.cta_reading.specs.Cta.{offset_in, is_timing, cta_of}
 use Rattle.cta_reading.specs.Judged.{start_bounds, timing_ends}
 use Rattle.cta_reading.proofs.Judged.{head_of}
-use Rattle.cta_reading.proofs.Laws.{no_timings, timing_room, timing_more, timing_over, timings_are}
+use Rattle.cta_reading.proofs.Laws.{no_timings, timing_more, timing_over, timings_are}
 use Rattle.cta_reading.proofs.read_timings.Goals as goal
 
 pub loop-video-init : goal.loop-video-init
 loop-video-init c =
     let given = c.requires in
-    rw c.first_timing-p.ensures ((start_bounds (offset_in c.args.s.now) (head_of _ given.before).offset).1, no_timings _ (record { are = refl; many = refl }))
-
-pub bounds-timings-timed : goal.bounds-timings-timed
-bounds-timings-timed c =
-    let block : List ℕ = c.args.s.now in
-    let on : is_timing (block) c.loop-video.p ≡ true = sym c.is_timing.ensures ∙ c.loop-video-test.true in
-    let room : c.loop-video.timed < 6 = timing_room c.requires.before c.loop-video.invariant.1 (on) in
-    room
-
-pub overflow_add-timed : goal.overflow_add-timed
-overflow_add-timed c =
-    let block : List ℕ = c.args.s.now in
-    let on : is_timing (block) c.loop-video.p ≡ true = sym c.is_timing.ensures ∙ c.loop-video-test.true in
-    let room : c.loop-video.timed < 6 = timing_room c.requires.before c.loop-video.invariant.1 (on) in
-    omega (arith, room)
+    rw c.first_timing-p.ensures ((start_bounds (offset_in c.args.s.now) (head_of _ given.before).offset).1, no_timings _)
 
 pub loop-video-smaller : goal.loop-video-smaller
 loop-video-smaller c =
@@ -42,7 +27,7 @@ unfolding cta_of
 returns c =
     let given = c.requires in
     let all = timings_are given.before c.loop-video.invariant.1 c.loop-video.invariant.0 (sym c.is_timing.ensures ∙ c.loop-video-test.false) in
-    rw (given.before, given.fair, given.video, given.blocks, all.fair, all.held.are, all.held.many)
+    rw (given.before, given.fair, given.video, given.blocks, all.fair, all.held)
 
 pub returns-in-None : goal.returns-in-None
 unfolding cta_of
@@ -57,10 +42,4 @@ loop-video-preserved c =
     let block : List ℕ = c.args.s.now in
     let on : is_timing (block) c.loop-video.p ≡ true = sym c.is_timing.ensures ∙ c.loop-video-test.true in
     let w = c.loop-video.invariant.1 in
-    (timing_ends _ _ (on), timing_more c.requires.before w (on) (ap timing_in (sym c.part.ensures) ∙ sym c.timing_in.ensures ∙ c.in-Some.is) (λ h. took w.held refl h refl refl))
-
-pub offset_bounds-timings-timed : goal.offset_bounds-timings-timed
-offset_bounds-timings-timed c =
-    let on : is_timing c.args.s.now c.loop-video.p ≡ true = sym c.is_timing.ensures ∙ c.loop-video-test.true in
-    let room : c.loop-video.timed < 6 = timing_room c.requires.before c.loop-video.invariant.1 on in
-    omega (arith, room)
+    (timing_ends _ _ (on), timing_more c.requires.before w (on) (ap timing_in (sym c.part.ensures) ∙ sym c.timing_in.ensures ∙ c.in-Some.is) c.push.ensures)
