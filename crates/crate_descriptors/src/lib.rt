@@ -117,7 +117,7 @@ fn gtf_of(start: u8, c: u8, m: u16, k: u8, j: u8) -> SecondaryTiming
     SecondaryTiming::GTF {
         start: start as u32 * 2000,
         c: crate_record::half_of(c),
-        m: crate_record::whole_of16(m),
+        m: crate_record::whole_of(m),
         k: crate_record::whole_of(k),
         j: crate_record::half_of(j),
     }

@@ -2,7 +2,7 @@
 // A field that a definition names has no `_` in its name.
 #![tactic(auto)]
 
-ghost use Rattle.std.specs.Prelude.{◌≡◌, ◌%◌};
+ghost use Rattle.std.specs.Prelude.{ℕ, ◌≡◌, ◌%◌};
 ghost use Rattle.crate_record.specs.Filler.{blank};
 ghost use Rattle.crate_record.specs.Single.{whole, gamma_of, chroma_of, coordinate, tenths_of, half_of, ratio_of, level_of};
 
@@ -347,18 +347,36 @@ pub fn blank_edid() -> EDID
 
 // ---- numbers made of bytes
 
-// A byte as it is.
-pub fn whole_of(v: u8) -> f32
-    ensures { result ≡ whole v }
-{
-    v as f32
+// A byte, or 16 bits: f32 holds each exactly.
+pub trait Whole: Sized {
+    // Which number a value is.
+    ghost value: { Self → ℕ };
+
+    fn whole(self) -> f32
+        ensures { result ≡ whole (value self) };
 }
 
-// 16 bits as they are.
-pub fn whole_of16(n: u16) -> f32
-    ensures { result ≡ whole n }
+impl Whole for u8 {
+    ghost value = { λ n. n };
+
+    fn whole(self) -> f32 {
+        self as f32
+    }
+}
+
+impl Whole for u16 {
+    ghost value = { λ n. n };
+
+    fn whole(self) -> f32 {
+        self as f32
+    }
+}
+
+// The number as it is.
+pub fn whole_of<N: Whole>(n: N) -> f32
+    ensures { result ≡ whole (N.value n) }
 {
-    n as f32
+    n.whole()
 }
 
 pub fn gamma_of(v: u8) -> f32
