@@ -1,5 +1,5 @@
 -- What the program `pick` prints, byte for byte.
-use Rattle.std.specs.Prelude.{ℕ, List, [], ◌∷◌, drop, Option, None, Some}
+use Rattle.std.specs.Prelude.{ℕ, List, [], ◌∷◌, drop, Option, None, Some, Ok, Err}
 use Rattle.page.specs.Words.{text, newline, field, field8, flat}
 use Rattle.shared_lines.specs.Lines.{refuse_line}
 use Rattle.standard_slot_lines.specs.Lines.{detailed_line}

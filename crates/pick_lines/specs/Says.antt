@@ -1,5 +1,5 @@
 -- What an answer of `pick` means: four cases, in the words of the order.
-use Rattle.std.specs.Prelude.{ℕ, ◌≡◌, List, [], ◌∷◌, drop, Option, None, Some}
+use Rattle.std.specs.Prelude.{ℕ, ◌≡◌, List, [], ◌∷◌, drop, Option, None, Some, Ok, Err}
 use Rattle.std.proofs.Math.Path.{refl}
 use Rattle.page.specs.Words.{text, newline, field, decimal_in, field8, flat}
 use Rattle.steps.specs.declared.Refusal.{Refusal}

@@ -1,5 +1,5 @@
 -- Every answer of `pick` is shorter than a page.
-use Rattle.std.specs.Prelude.{ℕ, ◌≤◌, ◌≡◌, List, length, take, drop, Option, None, Some}
+use Rattle.std.specs.Prelude.{ℕ, ◌≤◌, ◌≡◌, List, length, take, drop, Option, None, Some, Ok, Err}
 use Rattle.std.proofs.Common.{arith, length-append}
 use Rattle.page.specs.declared.Page.{Page}
 use Rattle.page.specs.Page.{◌▷◌}
