@@ -29,25 +29,6 @@ struct Lists {
     descriptors: Descriptors,
 }
 
-const NO_ENTRIES: Lists = Lists {
-    standard: StandardTimings {
-        items: [BLANK_STANDARD; 26],
-        len: 0,
-    },
-    detailed: DetailedTimings {
-        items: [BLANK_DETAILED; 4],
-        len: 0,
-    },
-    points: WhitePoints {
-        items: [BLANK_WHITE; 6],
-        len: 0,
-    },
-    descriptors: Descriptors {
-        items: [BLANK_HELD; 3],
-        len: 0,
-    },
-};
-
 // ---- the answers
 
 // The lists are those that the block says.
@@ -135,7 +116,24 @@ fn read_slots(s: &[u8]) -> StandardReading
     ensures { result ≡ standard_of s.now }
 {
     let structure = standard_parts::structure_of(s[19]);
-    let mut lists = NO_ENTRIES;
+    let mut lists = Lists {
+        standard: StandardTimings {
+            items: [BLANK_STANDARD; 26],
+            len: 0,
+        },
+        detailed: DetailedTimings {
+            items: [BLANK_DETAILED; 4],
+            len: 0,
+        },
+        points: WhitePoints {
+            items: [BLANK_WHITE; 6],
+            len: 0,
+        },
+        descriptors: Descriptors {
+            items: [BLANK_HELD; 3],
+            len: 0,
+        },
+    };
     list_pairs(&mut lists.standard, structure, s, 38, 8, 0);
     for i in 0..4u8 {
         let at = 54 + 18 * i;
