@@ -1,7 +1,7 @@
 // What the words of a line stand for, and the forms of lines. A word that is missing is the empty one, which stands for nothing.
 #![tactic(auto)]
 
-ghost use Rattle.std.specs.Prelude.{◌≤◌, ◌≡◌, ℕ, true, false};
+ghost use Rattle.std.specs.Prelude.{◌≤◌, ◌≡◌, ℕ, true, false, min};
 ghost use Rattle.text_words.specs.Words.{words, same, ◌word◌};
 ghost use Rattle.text_kinds.specs.Kinds.{is_number};
 ghost use Rattle.text_kinds.specs.Kinds as kinds;
@@ -33,9 +33,9 @@ pub trait Unsigned: Sized {
     fn most() -> u32
         ensures { result ≡ most };
 
+    // The number as such a value, or the most that it holds.
     fn of(n: u32) -> Self
-        requires { n ≤ most }
-        ensures { value result ≡ n };
+        ensures { value result ≡ min n most };
 }
 
 impl Unsigned for u8 {
@@ -48,7 +48,7 @@ impl Unsigned for u8 {
     }
 
     fn of(n: u32) -> u8 {
-        n as u8
+        n.min(255) as u8
     }
 }
 
@@ -62,7 +62,7 @@ impl Unsigned for u16 {
     }
 
     fn of(n: u32) -> u16 {
-        n as u16
+        n.min(65535) as u16
     }
 }
 

@@ -1,5 +1,5 @@
 -- `text_kinds::number` meets its contract: by the number in the word, where there is one. Assumes nothing.
-use Rattle.std.specs.Prelude.{ℕ, ◌≤◌, ◌≡◌, Bool, true, false, ◌&&◌, cond, Option, Some, None, List, leb}
+use Rattle.std.specs.Prelude.{ℕ, min, ◌≤◌, ◌≡◌, Bool, true, false, ◌&&◌, cond, Option, Some, None, List, leb}
 use Rattle.std.specs.Option.{unwrap_or}
 use Rattle.std.proofs.Common.{refl, ap, ◌∙◌, arith, leb-true}
 use Rattle.text_kinds.specs.Kinds.{is_led, all_digits, value, is_number, number_of}
@@ -25,12 +25,11 @@ number_read most w o e f = f ∙ ap (λ (p : Option ℕ). unwrap_or p 0) e ∙ g
     go true = refl
     go false = refl
 
-pub of-requires : goal.of-requires
-of-requires g c =
-    let is = number_read _ _ c.number_in.result c.number_in.ensures c.unwrap_or.ensures in
-    rw (is, c.most.ensures) (number_small g.N.Unsigned.most c.word.result.now)
+min_of : (n m : ℕ) → n ≤ m → min n m ≡ n
+min_of n m h = omega (arith, h)
 
 pub returns : goal.returns
 returns g c =
     let is = number_read _ _ c.number_in.result c.number_in.ensures c.unwrap_or.ensures in
-    c.of.ensures ∙ rw (c.most.ensures, c.word.ensures) at is
+    let small : c.unwrap_or.result ≤ g.N.Unsigned.most = rw (is, c.most.ensures) (number_small g.N.Unsigned.most c.word.result.now) in
+    c.of.ensures ∙ min_of _ _ small ∙ rw (c.most.ensures, c.word.ensures) at is
