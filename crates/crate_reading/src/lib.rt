@@ -48,9 +48,7 @@ fn edid_of(front: Front, established: EstablishedTimings, lists: Lists, extensio
 fn take_eight(c: &mut Cursor) -> Result<StandardTimings, Refusal>
     ensures { Took (map standard_timings (pairs 8)) c.old result c.new }
 {
-    let mut list = crate_timings::no_standard();
-    crate_timings::take_pairs(c, 8, &mut list)?;
-    Ok(list)
+    crate_timings::take_pairs(c, 8, crate_timings::no_standard())
 }
 
 fn take_edid(c: &mut Cursor) -> Result<EDID, Refusal>

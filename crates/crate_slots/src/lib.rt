@@ -35,7 +35,7 @@ fn take_described(c: &mut Cursor, lists: &mut Lists) -> Result<(), Refusal>
             lists.points.push(q);
         }
         Slot::Six => {
-            crate_timings::take_pairs(c, 6, &mut lists.standard)?;
+            lists.standard = crate_timings::take_pairs(c, 6, lists.standard)?;
             crate_descriptors::take_closing(c, 0)?;
         }
     }

@@ -3,7 +3,7 @@
 
 ghost use Rattle.std.specs.Prelude.{◌≡◌, []};
 ghost use Rattle.steps.specs.Steps.{map};
-ghost use Rattle.steps.specs.Took.{Took, with_value};
+ghost use Rattle.steps.specs.Took.{Took};
 ghost use Rattle.shared_record.specs.Established.{established_timings};
 ghost use Rattle.crate_record.specs.Lists.{standard_timings};
 ghost use Rattle.crate_timings.specs.Established.{established};
@@ -60,13 +60,18 @@ pub fn no_standard() -> StandardTimings
 }
 
 // n pairs, each onto the list.
-pub fn take_pairs(c: &mut Cursor, n: usize, list: &mut StandardTimings) -> Result<(), Refusal>
-    ensures { Took (fill_pairs n list.old) c.old (with_value list.new result) c.new }
+pub fn take_pairs(
+    c: &mut Cursor,
+    n: usize,
+    list: StandardTimings,
+) -> Result<StandardTimings, Refusal>
+    ensures { Took (fill_pairs n list) c.old result c.new }
 {
+    let mut list = list;
     for _ in 0..n {
         if let Some(timing) = take_pair(c)? {
             list.push(timing);
         }
     }
-    Ok(())
+    Ok(list)
 }

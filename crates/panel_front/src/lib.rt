@@ -6,8 +6,8 @@ ghost use Rattle.panel_front.specs.Front as front;
 
 use shared_record::{SupportedSync, Version};
 use standard_record::{
-    Chromaticities, Chromaticity, Depth, DisplayType, Features, ImageSize, Kind, Maker,
-    Product, Ratio, VideoInput, Week,
+    Chromaticities, Chromaticity, Depth, DisplayType, Features, ImageSize, Kind, Maker, Product,
+    Ratio, VideoInput, Week,
 };
 use timing::Size;
 

@@ -4,8 +4,8 @@
 #![tactic(auto)]
 
 use page::Page;
-use standard_writing::WriteRefusal;
 use standard_record::{Descriptor, Held, HeldPair, Ratio, StandardRecord, StandardTiming};
+use standard_writing::WriteRefusal;
 use std::io;
 use std::io::Write;
 use steps::Span;

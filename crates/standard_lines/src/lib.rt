@@ -8,8 +8,8 @@ ghost use Rattle.standard_lines.specs.Main.{main_lines};
 
 use page::Page;
 use standard_record::{
-    Chromaticities, Depth, Display, DisplayType, Features, HeldPair, HeldPoint, ImageSize,
-    Kind, Product, StandardReading, StandardRecord, StandardTimings, Verdict, VideoInput, Week,
+    Chromaticities, Depth, Display, DisplayType, Features, HeldPair, HeldPoint, ImageSize, Kind,
+    Product, StandardReading, StandardRecord, StandardTimings, Verdict, VideoInput, Week,
     WhitePoints,
 };
 

@@ -25,19 +25,19 @@ pub returns-in-White-Two : goal.returns-in-White-Two
 unfolding fill_described
 returns-in-White-Two c = then _ c.in_ok-take_descriptor.ensures (as_of (ap (fill_by _) (c.in-White-Two.is ∙ ap White c.in-White-Two.field-0-is)) (gives (rw (c.push-in-White-Two-2.ensures, c.push-in-White-Two.ensures))))
 
-pub returns-in_err-take_pairs-in-Six : goal.returns-in_err-take_pairs-in-Six
+pub returns-in_err-lists-in-Six : goal.returns-in_err-lists-in-Six
 unfolding fill_described
-returns-in_err-take_pairs-in-Six c =
-    then _ c.in_ok-take_descriptor.ensures (as_of (ap (fill_by _) c.in-Six.is) (stop_with _ _ c.in_err-take_pairs-in-Six.ensures (search rules)))
+returns-in_err-lists-in-Six c =
+    then _ c.in_ok-take_descriptor.ensures (as_of (ap (fill_by _) c.in-Six.is) (stop_with _ _ c.in_err-lists-in-Six.ensures (search rules)))
 
 pub returns-in_err-take_closing-in-Six : goal.returns-in_err-take_closing-in-Six
 unfolding fill_described
 returns-in_err-take_closing-in-Six c =
     then _ c.in_ok-take_descriptor.ensures (as_of (ap (fill_by _) c.in-Six.is)
-    (then _ c.in_ok-take_pairs-in-Six.ensures (stop_with _ _ c.in_err-take_closing-in-Six.ensures (search rules))))
+    (then _ c.in_ok-lists-in-Six.ensures (stop_with _ _ c.in_err-take_closing-in-Six.ensures (search rules))))
 
 pub returns-in_ok-take_closing-in-Six : goal.returns-in_ok-take_closing-in-Six
 unfolding fill_described
 returns-in_ok-take_closing-in-Six c =
     then _ c.in_ok-take_descriptor.ensures (as_of (ap (fill_by _) c.in-Six.is)
-    (then _ c.in_ok-take_pairs-in-Six.ensures (then _ c.in_ok-take_closing-in-Six.ensures (gives refl))))
+    (then _ c.in_ok-lists-in-Six.ensures (then _ c.in_ok-take_closing-in-Six.ensures (gives refl))))

@@ -1,6 +1,6 @@
 -- `crate_timings::take_pairs` meets its contract: what is left of the pairs at the cursor, with the list so far. Assumes nothing.
 use Rattle.std.proofs.Common.{rules, ap, refl, sym, ◌∙◌, ◌≡◌}
-use Rattle.steps.specs.Took.{gives, as_of, with_refusal}
+use Rattle.steps.specs.Took.{gives, as_of}
 use Rattle.crate_timings.specs.Filling.{pair_refused, pair_listed, no_more}
 use Rattle.crate_timings.specs.Pairs.{with_pair}
 use Rattle.crate_timings.proofs.take_pairs.Goals as goal
@@ -8,7 +8,7 @@ use Rattle.crate_timings.proofs.take_pairs.Goals.{in-Some, in_default}
 
 pub returns-in_err-timing : goal.returns-in_err-timing
 returns-in_err-timing c =
-    c.loop.invariant _ _ (pair_refused _ _ _ c.loop-test.true c.in_err-timing.ensures (with_refusal _ (search rules)))
+    c.loop.invariant _ _ (pair_refused _ _ _ c.loop-test.true c.in_err-timing.ensures (search rules))
 
 pub loop-preserved : goal.loop-preserved
 loop-preserved c = λ r new t.
