@@ -2,7 +2,7 @@
 use Rattle.std.specs.Prelude.{Option}
 use Rattle.std.proofs.Common.{◌≡◌, ℕ, ◌+◌, ◌*◌, ◌%◌, ◌<◌, ◌≤◌, min, Bool, true, false, ◌&&◌, eqb, ltb, leb, List, [], ◌∷◌, ◌++◌, length, get_or, take, drop, set, sym, refl, ap, ◌∙◌, subst, ap₂, true≢false, append_assoc, append-nil, add-one, arith, length-drop, length-set, drop_of_length-le, length-take, take_all, drop-drop, take-suc-set, ltb-true, ne_eqb, eqb-true, le-leb, leb-false, leb-true}
 use borrow.Author.Tests.{eqb-false, lt-leb}
-use lib.Seq.{paste, length-paste, take-paste}
+use lib.Seq.{paste, take-paste}
 use Rattle.bits.specs.Bytes.{part}
 use Rattle.fixed.specs.Gather.{gather, gather_more}
 use Rattle.sums.specs.Sum.{byte_sum}
@@ -225,14 +225,12 @@ one_slot x i at after a m =
 -- one slot more in the block
 pub slot_laid : (block block₀ bytes : List ℕ) (parts : ℕ → List ℕ) (i : ℕ) → length block ≡ 128 → i < 4 → length bytes ≡ 18 → bytes ≡ parts i
     → take (54 + 18 * i) block ≡ take 54 block₀ ++ gather parts i
-    → (length (paste block (54 + 18 * i) bytes 18) ≡ 128) × (take (54 + 18 * (i + 1)) (paste block (54 + 18 * i) bytes 18) ≡ take 54 block₀ ++ gather parts (i + 1))
+    → take (54 + 18 * (i + 1)) (paste block (54 + 18 * i) bytes 18) ≡ take 54 block₀ ++ gather parts (i + 1)
 slot_laid block block₀ bytes parts i size h eighteen is before =
-    let n : 54 + 18 * (i + 1) ≡ 54 + 18 * i + 18 = omega arith in (
-      length-paste block (54 + 18 * i) bytes 18 (omega arith) (omega arith) ∙ size,
-      ap (λ k. take k (paste block (54 + 18 * i) bytes 18)) n
-          ∙ take-paste block (54 + 18 * i) bytes 18 (omega arith) (omega arith)
-          ∙ rw (before, take_all 18 bytes (omega arith), is, gather_more parts i) (append_assoc (take 54 block₀) (gather parts i) (parts i)),
-    )
+    let n : 54 + 18 * (i + 1) ≡ 54 + 18 * i + 18 = omega arith in
+    ap (λ k. take k (paste block (54 + 18 * i) bytes 18)) n
+    ∙ take-paste block (54 + 18 * i) bytes 18 (omega arith) (omega arith)
+    ∙ rw (before, take_all 18 bytes (omega arith), is, gather_more parts i) (append_assoc (take 54 block₀) (gather parts i) (parts i))
 
 module _ (r : StandardRecord) (lent : List ℕ) where
   pub none_fit : FitSoFar r lent 0 true
@@ -263,11 +261,9 @@ module _ (r : StandardRecord) (lent : List ℕ) where
 
 -- a part laid behind what stands
 pub part_laid : (block p before : List ℕ) (at n : ℕ) → length block ≡ 128 → length p ≡ n → at + n ≤ 128 → take at block ≡ before
-    → (length (paste block at p (length p)) ≡ 128) × (take (at + n) (paste block at p (length p)) ≡ before ++ p)
-part_laid block p before at n size is room e = (
-  length-paste block at p (length p) (omega arith) (omega arith) ∙ size,
-  ap (λ k. take (at + n) (paste block at p k)) is ∙ take-paste block at p n (omega arith) (omega arith) ∙ ap₂ ◌++◌ e (take_all n p (omega arith)),
-)
+    → take (at + n) (paste block at p (length p)) ≡ before ++ p
+part_laid block p before at n size is room e =
+    ap (λ k. take (at + n) (paste block at p k)) is ∙ take-paste block at p n (omega arith) (omega arith) ∙ ap₂ ◌++◌ e (take_all n p (omega arith))
 
 -- the last two bytes
 pub end_laid : (block before : List ℕ) (e v : ℕ) → length block ≡ 128 → take 126 block ≡ before

@@ -191,14 +191,14 @@ fn timing_first(r: StandardRecord) -> bool
 // The four slots, behind the pairs that are used up; whether every entry fits and none is left. The lists are local arrays: in the loop no call takes
 // one, but where a slot holds pairs.
 fn fill_slots(
-    block: &mut [u8],
+    block: &mut [u8; 128],
     structure: Structure,
     r: StandardRecord,
     lent: &[u8],
     listed: usize,
 ) -> bool
-    requires { (length block.old ≡ 128) × (listed ≡ length (eight (seen r))) × (structure ≡ structure_of r.version.revision) }
-    ensures { SlotsFit r lent.now result × (length block.new ≡ 128) × (take 126 block.new ≡ take 54 block.old ++ gather (λ i. slot_from lent.now (taken (seen r) i)) 4) }
+    requires { (listed ≡ length (eight (seen r))) × (structure ≡ structure_of r.version.revision) }
+    ensures { SlotsFit r lent.now result × (take 126 block.new ≡ take 54 block.old ++ gather (λ i. slot_from lent.now (taken (seen r) i)) 4) }
 {
     let timings = r.timings.detailed.items;
     let pairs = r.timings.standard.items;
@@ -255,9 +255,9 @@ fn fill_slots(
 }
 
 // The front and the eight pairs; whether they fit, and how many pairs are used up.
-fn fill_front(block: &mut [u8], structure: Structure, r: StandardRecord) -> Begun
-    requires { (length block.old ≡ 128) × (structure ≡ structure_of r.version.revision) }
-    ensures { FrontFit r result.fits × (result.listed ≡ length (eight (seen r))) × (length block.new ≡ 128) × (take 54 block.new ≡ front_bytes (front_of (seen r)) ++ pairs_bytes 8 (eight (seen r))) }
+fn fill_front(block: &mut [u8; 128], structure: Structure, r: StandardRecord) -> Begun
+    requires { structure ≡ structure_of r.version.revision }
+    ensures { FrontFit r result.fits × (result.listed ≡ length (eight (seen r))) × (take 54 block.new ≡ front_bytes (front_of (seen r)) ++ pairs_bytes 8 (eight (seen r))) }
 {
     let product = r.product;
     let version = r.version;
@@ -278,8 +278,7 @@ fn fill_front(block: &mut [u8], structure: Structure, r: StandardRecord) -> Begu
 }
 
 // The whole block; whether any block gives the record.
-fn fill(block: &mut [u8], r: StandardRecord, lent: &[u8]) -> bool
-    requires { length block.old ≡ 128 }
+fn fill(block: &mut [u8; 128], r: StandardRecord, lent: &[u8]) -> bool
     ensures { Filled r lent.now result block.new }
 {
     let structure = standard_parts::structure_of(r.version.revision);

@@ -1,5 +1,5 @@
 -- `standard_writing::fill_front` meets its contract: the front, then the pairs, laid one behind the other. Assumes nothing.
-use Rattle.std.proofs.Common.{◌≡◌, [], ◌++◌, length, take, sym, refl, ap, ◌∙◌, arith}
+use Rattle.std.proofs.Common.{◌≡◌, [], ◌++◌, length, take, refl, ap, ◌∙◌, arith}
 use Rattle.standard_record.specs.Seen.{seen}
 use Rattle.write_pairs.specs.Pairs.{WritesPairs}
 use Rattle.write_head.specs.Front.{front_bytes}
@@ -10,53 +10,20 @@ use Rattle.write_block.specs.Holds.{structure_from}
 use Rattle.standard_writing.proofs.Laws.{part_laid, front_fits_lem}
 use Rattle.standard_writing.proofs.fill_front.Goals as goal
 
-pub slice_bounds-lay-end : goal.slice_bounds-lay-end
-unfolding front_bytes
-slice_bounds-lay-end c =
-    let front_size : length c.front_bytes-front.result.bytes ≡ 38 = ap length c.front_bytes-front.ensures.made in
-    sym (front_size)
-
-pub lay-requires : goal.lay-requires
-unfolding front_bytes
-lay-requires c =
-    let front_size : length c.front_bytes-front.result.bytes ≡ 38 = ap length c.front_bytes-front.ensures.made in
-    omega (arith, front_size, c.requires.0)
-
-pub slice_bounds-lay-end-2 : goal.slice_bounds-lay-end-2
-unfolding seen
-slice_bounds-lay-end-2 c =
-    let pairs : WritesPairs (structure_from (seen c.args.r)) (eight (seen c.args.r)) c.pairs_bytes-eight.result.fits c.pairs_bytes-eight.result.bytes c.pairs_bytes-eight.result.many = rw c.requires.1 at c.pairs_bytes-eight.ensures in
-    let pairs_size : length c.pairs_bytes-eight.result.bytes ≡ 16 = ap length (pairs).made ∙ pairs_length 8 (eight (seen c.args.r)) in
-    sym (pairs_size)
-
-pub lay-requires-2 : goal.lay-requires-2
-unfolding seen front_bytes
-lay-requires-2 c =
-    let front_size : length c.front_bytes-front.result.bytes ≡ 38 = ap length c.front_bytes-front.ensures.made in
-    let front_laid : (length c.lay.new.block ≡ 128) × (take 38 c.lay.new.block ≡ c.front_bytes-front.result.bytes) =
-    rw c.lay.ensures (part_laid c.args.block.now c.front_bytes-front.result.bytes [] 0 38 c.requires.0 front_size (omega arith) refl)
-    in
-    let pairs : WritesPairs (structure_from (seen c.args.r)) (eight (seen c.args.r)) c.pairs_bytes-eight.result.fits c.pairs_bytes-eight.result.bytes c.pairs_bytes-eight.result.many =
-    rw c.requires.1 at c.pairs_bytes-eight.ensures
-    in
-    let pairs_size : length c.pairs_bytes-eight.result.bytes ≡ 16 = ap length pairs.made ∙ pairs_length 8 (eight (seen c.args.r)) in
-    omega (arith, pairs_size, front_laid.0)
-
 pub returns : goal.returns
 unfolding seen front_bytes
 returns c =
     let front_size : length c.front_bytes-front.result.bytes ≡ 38 = ap length c.front_bytes-front.ensures.made in
-    let front_laid : (length c.lay.new.block ≡ 128) × (take 38 c.lay.new.block ≡ c.front_bytes-front.result.bytes) =
-    rw c.lay.ensures (part_laid c.args.block.now c.front_bytes-front.result.bytes [] 0 38 c.requires.0 front_size (omega arith) refl)
+    let front_laid : take 38 c.lay.new.block ≡ c.front_bytes-front.result.bytes =
+    rw c.lay.ensures (part_laid c.args.block.now c.front_bytes-front.result.bytes [] 0 38 (omega arith) front_size (omega arith) refl)
     in
     let pairs : WritesPairs (structure_from (seen c.args.r)) (eight (seen c.args.r)) c.pairs_bytes-eight.result.fits c.pairs_bytes-eight.result.bytes c.pairs_bytes-eight.result.many =
-    rw c.requires.1 at c.pairs_bytes-eight.ensures
+    rw c.requires at c.pairs_bytes-eight.ensures
     in
     let pairs_size : length c.pairs_bytes-eight.result.bytes ≡ 16 = ap length pairs.made ∙ pairs_length 8 (eight (seen c.args.r)) in
     let head = front_bytes (front_of (seen c.args.r)) in
-    let e = part_laid c.lay.new.block c.pairs_bytes-eight.result.bytes head 38 16 front_laid.0 pairs_size (omega arith) (front_laid.1 ∙ c.front_bytes-front.ensures.made) in (
+    let e = part_laid c.lay.new.block c.pairs_bytes-eight.result.bytes head 38 16 (omega arith) pairs_size (omega arith) (front_laid ∙ c.front_bytes-front.ensures.made) in (
       (front_fits_lem c.args.r _ _ _ _ _ c.front_bytes-front.ensures pairs),
       pairs.count,
-      rw c.lay-2.ensures e.0,
-      rw c.lay-2.ensures (e.1 ∙ ap (λ s. head ++ s) pairs.made),
+      rw c.lay-2.ensures (e ∙ ap (λ s. head ++ s) pairs.made),
     )

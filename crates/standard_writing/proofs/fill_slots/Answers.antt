@@ -14,35 +14,26 @@ use Rattle.standard_writing.proofs.fill_slots.Goals as goal
 use Rattle.standard_writing.proofs.fill_slots.Goals.{in-Some, in-None+then-pair_ahead, in-None+else-pair_ahead}
 
 pub loop-i-init : goal.loop-i-init
-loop-i-init c =
-    let p = c.requires in
-    (search rules, p.0, none_yet _ _ refl p.1 refl refl, none_fit _ _, sym (append-nil _))
+loop-i-init c = (search rules, none_yet _ _ refl c.requires.0 refl refl, none_fit _ _, sym (append-nil _))
 
 pub timing_turn-t-requires : goal.timing_turn-t-requires
-timing_turn-t-requires c = small (omega (arith, c.loop-i.invariant.0)) c.loop-i.invariant.2
+timing_turn-t-requires c = small (omega (arith, c.loop-i.invariant.0)) c.loop-i.invariant.1
 
 pub pairs_turn-requires : goal.pairs_turn-requires
 pairs_turn-requires c =
     let pairs = c.args.r.timings.standard in
     let six = rw (most_six (c.loop-i.i + 1) (omega arith)) at c.pairs_bytes.ensures in
-    (small (omega (arith, c.loop-i.invariant.0)) c.loop-i.invariant.2, omega (arith, six.count, run_at_most held_pair (c.loop-i.i + 1) 6 (drop c.loop-i.at.listed (take pairs.len pairs.items))))
+    (small (omega (arith, c.loop-i.invariant.0)) c.loop-i.invariant.1, omega (arith, six.count, run_at_most held_pair (c.loop-i.i + 1) 6 (drop c.loop-i.at.listed (take pairs.len pairs.items))))
 
 pub other_turn-requires : goal.other_turn-requires
 other_turn-requires c =
-    small (omega (arith, c.loop-i.invariant.0)) c.loop-i.invariant.2
-
-pub lay_slot-requires : goal.lay_slot-requires
-lay_slot-requires c = omega (arith, c.loop-i.invariant.1)
-
-pub shape_of-block : goal.shape_of-block
-shape_of-block c = c.loop-i.invariant.1 ∙ sym c.requires.0
+    small (omega (arith, c.loop-i.invariant.0)) c.loop-i.invariant.1
 
 pub returns : goal.returns
 returns c =
     let four : c.loop-i.i ≡ 4 = omega arith in (
-      (all_fit c.args.r _ _ _ _ (rw four at c.loop-i.invariant.2) (rw four at c.loop-i.invariant.3) c.used_up.ensures),
-      c.loop-i.invariant.1,
-      rw four at c.loop-i.invariant.4,
+      (all_fit c.args.r _ _ _ _ (rw four at c.loop-i.invariant.1) (rw four at c.loop-i.invariant.2) c.used_up.ensures),
+      rw four at c.loop-i.invariant.3,
     )
 
 pub loop-i-preserved : goal.loop-i-preserved
@@ -71,7 +62,7 @@ loop-i-preserved c =
     elim c.match-next_timing.branch [
       | in-Some w ↦ subst Meant (sym w.t-is) (subst (Turned _ lent at _ _ _) (sym (next_is number left (timing_is ∙ ap of_timing w.in-Some.is) refl refl refl)) (w.timing_turn-t.ensures _ lent))
       | in-None+then-pair_ahead w ↦
-          let six = rw (most_six number (omega arith), c.requires.2) at w.pairs_bytes.ensures in
+          let six = rw (most_six number (omega arith), c.requires.1) at w.pairs_bytes.ensures in
           subst Meant (sym w.t-is) (subst (Turned _ lent at _ _ _) (sym (next_is number left (timing_is ∙ ap of_timing w.in-None.is) refl refl refl))
           (pairs_turned _ lent at w.pairs_turn.result _ _ _ _ six (omega (arith, six.count, some _ (sym w.pair_ahead.ensures ∙ w.if-pair_ahead.true))) (run_at_most held_pair number 6 left.pairs)
           w.pairs_turn.ensures.0 w.pairs_turn.ensures.1 w.pairs_turn.ensures.2 _ _))
@@ -80,16 +71,15 @@ loop-i-preserved c =
           (sym (next_is number left (timing_is ∙ ap of_timing w.in-None.is) (none _ (sym w.pair_ahead.ensures ∙ w.if-pair_ahead.false))
           (points_are points.items points.len at.pointed number whole_points _ _ w.next_point-p.result w.next_point-q.result w.two_points.ensures w.next_point-p.ensures w.next_point-q.ensures)
           (sym (w.next_descriptor-d.ensures ∙ own_is held number entries.items entries.len 3 at.entered whole_entries _))))
-          (rw c.requires.2 at w.other_turn.ensures))
+          (rw c.requires.1 at w.other_turn.ensures))
     ]
     in
     let t = c.match-next_timing.t in
-    let w = rw c.loop-i.invariant.2.left at turn_is.0 in
+    let w = rw c.loop-i.invariant.1.left at turn_is.0 in
     let e = slot_laid c.loop-i.block c.args.block.now t.slot.bytes (λ j. slot_from lent (taken x j)) c.loop-i.i
-    c.loop-i.invariant.1 (omega arith) c.lay_slot.ensures.0 w.made c.loop-i.invariant.4 in (
+    (omega arith) (omega arith) c.lay_slot.ensures.0 w.made c.loop-i.invariant.3 in (
       omega arith,
-      rw c.lay_slot.ensures.1 e.0,
-      one_slot x c.loop-i.i at t.after c.loop-i.invariant.2 turn_is.1,
-      (one_fits r lent c.loop-i.i _ _ _ (omega arith) c.loop-i.invariant.3 w),
-      rw c.lay_slot.ensures.1 e.1,
+      one_slot x c.loop-i.i at t.after c.loop-i.invariant.1 turn_is.1,
+      (one_fits r lent c.loop-i.i _ _ _ (omega arith) c.loop-i.invariant.2 w),
+      rw c.lay_slot.ensures.1 e,
     )
