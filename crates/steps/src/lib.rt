@@ -4,7 +4,7 @@
 ghost use Rattle.steps.specs.Leaves.{byte, two, four, word, long};
 ghost use Rattle.steps.specs.Took.{Took};
 
-#[derive(Drop)]
+#[derive(Clone, Copy)]
 pub struct Cursor<'a> {
     pub bytes: &'a [u8],
     pub at: usize,
