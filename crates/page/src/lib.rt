@@ -1,7 +1,7 @@
 // Text appended to a page of 4,096 bytes that the caller lends. Where the page is full the rest is dropped.
 #![tactic(auto)]
 
-ghost use Rattle.std.specs.Prelude.{ℕ, List, ◌≡◌, [], ◌∷◌, length, take, drop};
+ghost use Rattle.std.specs.Prelude.{ℕ, List, ◌≡◌, [], ◌∷◌, length, min, take, drop};
 ghost use Rattle.std.specs.Float.{binary32};
 ghost use Rattle.std.specs.Float.Ieee.{to_bits};
 ghost use Rattle.page.specs.Page.{◌▷◌};
@@ -169,9 +169,23 @@ impl<'a> Page<'a> {
     pub fn hex_span(&mut self, s: &[u8], start: usize, len: usize)
         ensures { self.new ≡ self.old ▷ words.each words.hex_of2 (take len (drop start s.now)) }
     {
-        let rest = &s[start.min(s.len())..];
-        self.hex_run(&rest[..len.min(rest.len())]);
+        let rest = &s[least(start, s.len())..];
+        self.hex_run(&rest[..least(len, rest.len())]);
     }
+}
+
+// The lesser of two.
+pub fn least(a: usize, b: usize) -> usize
+    ensures { result ≡ min a b }
+{
+    a.min(b)
+}
+
+// How many bytes a page has.
+pub fn size(out: &[u8; 4096]) -> usize
+    ensures { (result ≡ 4096) × (length out.now ≡ 4096) }
+{
+    out.len()
 }
 
 // The hexadecimal digit of n % 16, in lower case.
