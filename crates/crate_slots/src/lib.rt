@@ -1,6 +1,7 @@
 // The four slots: the first holds a timing, and each of the three later ones starts where the one before stopped.
 #![tactic(auto)]
 
+ghost use Rattle.std.specs.Prelude.{◌≡◌, OnErr};
 ghost use Rattle.steps.specs.Steps.{map};
 ghost use Rattle.steps.specs.Took.{Took, with_value};
 ghost use Rattle.crate_slots.specs.Slots.{slots, lists_after};
@@ -22,9 +23,10 @@ pub struct Lists {
     pub descriptors: MonitorDescriptors,
 }
 
-// What a descriptor adds to the lists.
+// What a descriptor adds to the lists; where it is refused they stay.
 fn take_described(c: &mut Cursor, lists: &mut Lists) -> Result<(), Refusal>
-    ensures { Took (fill_described lists.old) c.old (with_value lists.new result) c.new }
+    ensures takes { Took (fill_described lists.old) c.old (with_value lists.new result) c.new }
+    ensures stays { OnErr result (lists.new ≡ lists.old) }
 {
     match crate_descriptors::take_descriptor(c)? {
         Slot::Nothing => {}
@@ -35,16 +37,18 @@ fn take_described(c: &mut Cursor, lists: &mut Lists) -> Result<(), Refusal>
             lists.points.push(q);
         }
         Slot::Six => {
-            lists.standard = crate_timings::take_pairs(c, 6, lists.standard)?;
+            let standard = crate_timings::take_pairs(c, 6, lists.standard)?;
             crate_descriptors::take_closing(c, 0)?;
+            lists.standard = standard;
         }
     }
     Ok(())
 }
 
-// What the slot i adds to them.
+// What the slot i adds to them; where it is refused they stay.
 fn take_slot(i: usize, c: &mut Cursor, lists: &mut Lists) -> Result<(), Refusal>
-    ensures { Took (fill_slot i lists.old) c.old (with_value lists.new result) c.new }
+    ensures takes { Took (fill_slot i lists.old) c.old (with_value lists.new result) c.new }
+    ensures stays { OnErr result (lists.new ≡ lists.old) }
 {
     if let Some(timing) = crate_detailed::take_detailed(c)? {
         lists.detailed.push(timing);

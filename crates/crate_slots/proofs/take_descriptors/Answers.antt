@@ -10,11 +10,11 @@ loop-i-init c = λ r new t. t
 pub returns-in_err-take_slot : goal.returns-in_err-take_slot
 returns-in_err-take_slot c =
     as_of (slots_filled _)
-    (c.loop-i.invariant _ _ (as_of (turn _ _ c.loop-i-test.true) (stop _ c.in_err-take_slot.ensures (search rules))))
+    (c.loop-i.invariant _ _ (as_of (turn _ _ c.loop-i-test.true) (stop _ c.in_err-take_slot.ensures.takes (search rules))))
 
 pub loop-i-preserved : goal.loop-i-preserved
 loop-i-preserved c = λ r new t.
-    c.loop-i.invariant _ _ (as_of (turn _ _ c.loop-i-test.true) (then _ c.in_ok-take_slot.ensures t))
+    c.loop-i.invariant _ _ (as_of (turn _ _ c.loop-i-test.true) (then _ c.in_ok-take_slot.ensures.takes t))
 
 pub returns : goal.returns
 returns c = as_of (slots_filled _) (c.loop-i.invariant _ _ (as_of (no_turn _ _ c.loop-i-test.false) (gives refl)))

@@ -5,20 +5,20 @@ use Rattle.steps.specs.Took.{then, stop_with, gives, refuses, as_of}
 use Rattle.crate_slots.specs.Filling.{fill_turn, fill_slot}
 use Rattle.crate_slots.proofs.take_slot.Goals as goal
 
-pub returns-in_err-timing : goal.returns-in_err-timing
+pub returns-in_err-timing-clause-takes : goal.returns-in_err-timing-clause-takes
 unfolding fill_slot
-returns-in_err-timing c = stop_with _ _ c.in_err-timing.ensures (search rules)
+returns-in_err-timing-clause-takes c = stop_with _ _ c.in_err-timing.ensures (search rules)
 
-pub returns-in-Some : goal.returns-in-Some
+pub returns-in-Some-clause-takes : goal.returns-in-Some-clause-takes
 unfolding fill_slot
-returns-in-Some c = then _ c.in_ok-timing.ensures (as_of (ap (fill_turn _ _) c.in-Some.is) (gives (rw c.push.ensures)))
+returns-in-Some-clause-takes c = then _ c.in_ok-timing.ensures (as_of (ap (fill_turn _ _) c.in-Some.is) (gives (rw c.push.ensures)))
 
-pub returns-then-i-eq0 : goal.returns-then-i-eq0
+pub returns-then-i-eq0-clause-takes : goal.returns-then-i-eq0-clause-takes
 unfolding fill_slot
-returns-then-i-eq0 c =
+returns-then-i-eq0-clause-takes c =
     then _ c.in_ok-timing.ensures (as_of (ap (fill_turn _ _) c.in_default.is ∙ picked _ _ _ (eq-eqb _ _ c.if-i-eq0.true)) refuses)
 
-pub returns : goal.returns
+pub returns-clause-takes : goal.returns-clause-takes
 unfolding fill_slot
-returns c =
-    then _ c.in_ok-timing.ensures (as_of (ap (fill_turn _ _) c.in_default.is ∙ picked_not _ _ _ (ne_eqb _ _ c.if-i-eq0.false)) c.take_described.ensures)
+returns-clause-takes c =
+    then _ c.in_ok-timing.ensures (as_of (ap (fill_turn _ _) c.in_default.is ∙ picked_not _ _ _ (ne_eqb _ _ c.if-i-eq0.false)) c.take_described.ensures.takes)
