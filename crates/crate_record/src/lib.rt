@@ -368,7 +368,7 @@ impl Whole for u16 {
     ghost value = { λ n. n };
 
     fn whole(self) -> f32 {
-        self as f32
+        f32::from(self)
     }
 }
 
