@@ -1,12 +1,14 @@
 -- What the proofs of `panel_forms` use: forms and words one after the other.
 use Rattle.std.specs.Prelude.{ℕ, suc, ◌+◌, ◌<◌, ◌≤◌, Bool, true, false, cond, List, [], ◌∷◌, ◌≡◌, refl, leb, length, get_or, drop}
-use Rattle.std.proofs.Common.{ap, add-one, arith, leb-true, leb-false, ne_eqb, drop_of_length-le, drop-cons}
+use Rattle.std.proofs.Common.{ap, add-one, arith, le-leb, leb-true, leb-false, ne_eqb, drop_of_length-le, drop-cons}
+use Rattle.std.proofs.lemmas.Bool.{lt-leb}
+use Rattle.std.proofs.Math.Bool.{and-false}
 use Rattle.std.proofs.Math.ListN.{get_or-eq_default}
 use Rattle.text_words.specs.Words.{words, onto}
 use Rattle.text_lines.specs.Lines.{is_newline, is_idle, lines, counted}
 use Rattle.text_lines.specs.Laws.{counted_some}
-use Rattle.text_kinds.specs.Kinds.{fits}
-use Rattle.panel_forms.specs.Forms.{forms, is_line, any_of}
+use Rattle.text_kinds.specs.Kinds.{is_number, fits}
+use Rattle.panel_forms.specs.Forms.{forms, is_line, any_of, all_bytes, bytes_behind}
 
 -- ---- forms
 
@@ -60,6 +62,31 @@ lines_few (b ∷ s) = go (is_newline b) (lines_few s)
 -- no more than there are bytes
 pub forms_few : (s : List ℕ) → length (counted (lines s)) ≤ length s
 forms_few s = omega (arith, counted_few (lines s), lines_few s)
+
+-- ---- numbers behind the first word
+
+module _ (ws : List (List ℕ)) (k : ℕ) where
+  pub no_byte : k < length ws → is_number 255 (get_or ws k []) ≡ false → all_bytes (drop k ws) ≡ false
+  no_byte h e = rw (drop-cons ws k [] h, e)
+
+  pub byte_more : k < length ws → is_number 255 (get_or ws k []) ≡ true → all_bytes (drop k ws) ≡ all_bytes (drop (k + 1) ws)
+  byte_more h e = rw (add-one, drop-cons ws k [] h, e)
+
+  pub bytes_over : length ws ≤ k → all_bytes (drop k ws) ≡ true
+  bytes_over h = rw (drop_of_length-le ws {i = k} h)
+
+-- by the words behind the first
+pub behind_is : (ws : List (List ℕ)) (t : Bool) → 0 < length ws → length ws ≤ 18 → all_bytes (drop 1 ws) ≡ t → bytes_behind ws ≡ t
+behind_is [] t h i e = absurd (omega arith)
+behind_is (w ∷ ws) t h i e = rw (le-leb (length ws) 17 (omega arith)) e
+
+pub behind_not : (ws : List (List ℕ)) → 0 < length ws → all_bytes (drop 1 ws) ≡ false → bytes_behind ws ≡ false
+behind_not [] h e = refl
+behind_not (w ∷ ws) h e = rw e (and-false (leb (length ws) 17))
+
+pub behind_long : (ws : List (List ℕ)) → 18 < length ws → bytes_behind ws ≡ false
+behind_long [] h = refl
+behind_long (w ∷ ws) h = rw (lt-leb (length ws) 17 (omega arith))
 
 -- there are thirteen kinds
 pub no_kind : (kind : ℕ) (l : List ℕ) → 13 ≤ kind → is_line kind l ≡ false

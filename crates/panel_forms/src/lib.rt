@@ -45,8 +45,15 @@ fn any_of(l: &[u8], forms: &[u8]) -> bool
 fn bytes_behind(l: &[u8]) -> bool
     ensures { result ≡ bytes_behind (words l.now) }
 {
-    let n = text_words::count(l);
-    n <= 18 && (1..n).all(|k| text_kinds::is_byte(l, k))
+    for k in 0..18 {
+        if text_words::last_word(l, k) {
+            return true;
+        }
+        if !text_kinds::is_byte(l, k + 1) {
+            return false;
+        }
+    }
+    false
 }
 
 #[tactic(auto, unfolding(crate::specs::Forms::are_established))]

@@ -269,7 +269,7 @@ pub fn fits(l: &[u8], form: &[u8]) -> bool
 {
     let n = text_words::count(form);
     (0..n).all(|k| may(text_words::word(form, k), text_words::word(l, k)))
-        && text_words::count(l) == n
+        && text_words::ends_at(l, n - 1)
 }
 
 // ---- the word at k of a line

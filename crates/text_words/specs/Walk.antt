@@ -2,7 +2,7 @@
 use Rattle.std.specs.Prelude.{ℕ, suc, ◌+◌, ◌-◌, ◌<◌, ◌≤◌, Bool, true, false, cond, List, [], ◌∷◌, ◌≡◌, refl, eqb, ltb, length, get_or, take, drop}
 use Rattle.std.proofs.Common.{sym, ap, ◌∙◌, add-zero, arith, le-leb, eqb-true, length-drop, drop_of_length-le, drop-drop, get_or-drop}
 use Rattle.std.proofs.Math.Nat.{add-sub_cancel_left}
-use borrow.Author.Tests.{ltb-true, ltb-false}
+use borrow.Author.Tests.{ltb-true, ltb-false, eq-eqb, ne_eqb}
 use Rattle.std.proofs.lemmas.Bool.{lt-leb, eqb-false}
 use Rattle.std.proofs.Math.ListN.{get_or-eq_default}
 use Rattle.text_words.specs.Words.{is_blank, parts, turned, words, ◌word◌, last_word}
@@ -84,11 +84,14 @@ module _ (l : List ℕ) (start end index : ℕ) (a : At l start end index) where
   pub last_behind : (k : ℕ) → index ≤ k → end ≡ length l → last_word l k ≡ true
   last_behind k h e = le-leb (length (words l)) (suc k) (omega (arith, ended e))
 
-  more_behind : (end ≡ length l → ⊥) → last_word l index ≡ false
-  more_behind e =
+  one_behind : (end ≡ length l → ⊥) → suc index < length (words l)
+  one_behind e =
       let t = drop end l in
       let some = behind_some t (omega (arith, a.inside, length-drop end l)) ∙ words_are false _ in
-      lt-leb (length (words l)) (suc index) (omega (arith, count, ap length some))
+      omega (arith, count, ap length some)
+
+  more_behind : (end ≡ length l → ⊥) → last_word l index ≡ false
+  more_behind e = lt-leb (length (words l)) (suc index) (one_behind e)
 
   pub last_is : eqb end (length l) ≡ last_word l index
   last_is = go (eqb end (length l)) refl
@@ -96,6 +99,17 @@ module _ (l : List ℕ) (start end index : ℕ) (a : At l start end index) where
       go : (t : Bool) → eqb end (length l) ≡ t → t ≡ last_word l index
       go true e = sym (last_behind index (omega arith) (eqb-true end (length l) e))
       go false e = sym (more_behind (eqb-false end (length l) e))
+
+  -- it is the last one
+  pub ends_here : eqb end (length l) ≡ eqb (length (words l)) (index + 1)
+  ends_here = go (eqb end (length l)) refl
+    where
+      go : (t : Bool) → eqb end (length l) ≡ t → t ≡ eqb (length (words l)) (index + 1)
+      go true e = sym (eq-eqb (length (words l)) (index + 1) (omega (arith, ended (eqb-true end (length l) e))))
+      go false e = sym (ne_eqb (length (words l)) (index + 1) (λ z. omega (arith, z, one_behind (eqb-false end (length l) e))))
+
+  pub ends_before : (k : ℕ) → index < k → end ≡ length l → eqb (length (words l)) (k + 1) ≡ false
+  ends_before k h e = ne_eqb (length (words l)) (k + 1) (λ z. omega (arith, z, ended e))
 
 -- a walk as far as there are bytes comes to the last word
 pub all_walked : (l : List ℕ) (r : Place) → Walked l (length l) r → length (words l) ≡ r.index + 1

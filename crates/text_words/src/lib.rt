@@ -1,7 +1,7 @@
 // The words of a line of text, and what each stands for.
 #![tactic(auto)]
 
-ghost use Rattle.std.specs.Prelude.{◌+◌, ◌≤◌, ◌≡◌, false, length, drop};
+ghost use Rattle.std.specs.Prelude.{◌+◌, ◌≤◌, ◌≡◌, false, eqb, length, drop};
 ghost use Rattle.text_words.specs.Words.{is_blank, is_plain, parts, turned, words, ◌word◌, last_word, same};
 ghost use Rattle.text_words.specs.Scan.{word_length, gap_length};
 ghost use Rattle.text_words.specs.Walk.{Walked};
@@ -103,6 +103,14 @@ pub fn last_word(l: &[u8], k: usize) -> bool
 {
     let at = walk(l, k);
     at.index < k || at.end == l.len()
+}
+
+// Whether the word at k is there and is the last one.
+pub fn ends_at(l: &[u8], k: usize) -> bool
+    ensures { result ≡ eqb (length (words l.now)) (k + 1) }
+{
+    let at = walk(l, k);
+    at.index == k && at.end == l.len()
 }
 
 // Whether two words are the same.

@@ -1,12 +1,13 @@
 -- `text_kinds::fits` meets its contract: each word may stand for that of the form, and there are as many. Assumes nothing.
-use Rattle.std.specs.Prelude.{ℕ, suc, ◌≡◌, Bool, ◌&&◌, eqb, List, [], ◌∷◌, length, get_or}
+use Rattle.std.specs.Prelude.{ℕ, suc, ◌+◌, ◌-◌, ◌≡◌, Bool, false, ◌&&◌, eqb, List, [], ◌∷◌, length, get_or}
 use Rattle.std.specs.List.{list_all, range_with_len}
 use Rattle.std.proofs.Math.Bool.{and_assoc, and-false}
 use Rattle.std.proofs.Math.Dec.{eqb-suc-zero, eqb-zero-suc, eqb-suc-suc}
-use Rattle.std.proofs.Common.{add-one, refl, sym, ap, ap₂, ◌∙◌, rules, tests}
+use Rattle.std.proofs.Common.{add-one, refl, sym, ap, ap₂, ◌∙◌, rules, tests, arith}
 use Rattle.std.proofs.lemmas.Iterator.{YieldsList-from_range}
 use Rattle.std.proofs.lemmas.Iterator.Search.{all_from_yields_List}
 use Rattle.text_words.specs.Words.{words}
+use Rattle.text_words.specs.Scan.{words_some}
 use Rattle.text_kinds.specs.Kinds.{may, fits}
 use Rattle.text_kinds.specs.Laws.{shifted}
 use Rattle.text_kinds.proofs.fits.Goals as goal
@@ -31,7 +32,8 @@ returns-then-all c =
     let fs = words c.args.form.now in
     let ws = words c.args.l.now in
     let all = all_from_yields_List (fit_at fs ws) _ _ c.all.result c.all.ensures.ran (YieldsList-from_range 0 c.count-n.result (length fs) refl (search rules)) (λ x b q k. search (rules, tests)) in
-    rw (c.count.ensures, c.count-n.ensures, fits_are fs ws, ← all, c.if-all.true)
+    let n : c.count-n.result - 1 + 1 ≡ length fs = omega (arith, c.count-n.ensures, words_some false c.args.form.now) in
+    rw (c.ends_at.ensures, n, fits_are fs ws, ← all, c.if-all.true)
 
 pub returns-else-all : goal.returns-else-all
 returns-else-all c =
@@ -39,3 +41,6 @@ returns-else-all c =
     let ws = words c.args.l.now in
     let all = all_from_yields_List (fit_at fs ws) _ _ c.all.result c.all.ensures.ran (YieldsList-from_range 0 c.count-n.result (length fs) refl (search rules)) (λ x b q k. search (rules, tests)) in
     rw (fits_are fs ws, ← all, c.if-all.false)
+
+pub overflow_sub-n : goal.overflow_sub-n
+overflow_sub-n c = omega (arith, c.count-n.ensures, words_some false c.args.form.now)
