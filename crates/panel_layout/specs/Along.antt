@@ -78,6 +78,19 @@ module _ (test : ℕ → List ℕ → Bool) where
 
 -- ---- the layout
 
+module _ (ls : List (List ℕ)) (p : Places) (n : ℕ) (is : n ≡ wrong_at ls p) where
+  pub has_all : n ≡ p.extensions + 1 → length ls ≤ p.extensions + 1 → Ok p ≡ layout_by ls p
+  unfolding layout_by
+  has_all e h = rw (← is, eq-eqb n (p.extensions + 1) e, le-leb (length ls) (p.extensions + 1) h)
+
+  pub line_too_many : n ≡ p.extensions + 1 → p.extensions + 1 < length ls → Err n ≡ layout_by ls p
+  unfolding layout_by
+  line_too_many e h = rw (← is, eq-eqb n (p.extensions + 1) e, lt-leb (length ls) (p.extensions + 1) h)
+
+  pub line_wrong : (n ≡ p.extensions + 1 → ⊥) → Err n ≡ layout_by ls p
+  unfolding layout_by
+  line_wrong e = rw (← is, ne_eqb n (p.extensions + 1) e)
+
 module _ (ls : List (List ℕ)) where
   pub places_grow : let p = places_of ls in (7 ≤ p.established) × (p.established < p.extensions)
   unfolding places_of
@@ -87,24 +100,28 @@ module _ (ls : List (List ℕ)) where
   p = places_of ls
 
   pub head_wrong : (k : ℕ) → heads 7 ls 0 ≡ k → k < 7 → Err k ≡ layout_of ls
-  unfolding layout_of layout_by wrong_at
-  head_wrong k e h = rw (e, lt-ltb k 7 h, ne_eqb k (p.extensions + 1) (λ z. omega (arith, places_grow)))
+  unfolding layout_of wrong_at
+  head_wrong k e h = line_wrong ls p k (rw (e, lt-ltb k 7 h)) (λ z. omega (arith, places_grow))
 
   module _ (all : 7 ≤ heads 7 ls 0) where
     pub established_wrong : is_line 8 (get_or ls p.established []) ≡ false → Err p.established ≡ layout_of ls
-    unfolding layout_of layout_by wrong_at
-    established_wrong e = rw (le-ltb (heads 7 ls 0) 7 all, e, ne_eqb p.established (p.extensions + 1) (λ z. omega (arith, places_grow)))
+    unfolding layout_of wrong_at
+    established_wrong e = line_wrong ls p p.established (rw (le-ltb (heads 7 ls 0) 7 all, e)) (λ z. omega (arith, places_grow))
 
     module _ (there : is_line 8 (get_or ls p.established []) ≡ true) where
       pub extensions_wrong : is_line 12 (get_or ls p.extensions []) ≡ false → Err p.extensions ≡ layout_of ls
-      unfolding layout_of layout_by wrong_at
-      extensions_wrong e = rw (le-ltb (heads 7 ls 0) 7 all, there, e, ne_eqb p.extensions (p.extensions + 1) (λ z. omega arith))
+      unfolding layout_of wrong_at
+      extensions_wrong e = line_wrong ls p p.extensions (rw (le-ltb (heads 7 ls 0) 7 all, there, e)) (λ z. omega arith)
 
       module _ (last : is_line 12 (get_or ls p.extensions []) ≡ true) where
-        pub line_too_many : p.extensions + 1 < length ls → Err (p.extensions + 1) ≡ layout_of ls
-        unfolding layout_of layout_by wrong_at
-        line_too_many h = rw (le-ltb (heads 7 ls 0) 7 all, there, last, eq-eqb (p.extensions + 1) (p.extensions + 1) refl, lt-leb (length ls) (p.extensions + 1) h)
+        none_wrong : p.extensions + 1 ≡ wrong_at ls p
+        unfolding wrong_at
+        none_wrong = rw (le-ltb (heads 7 ls 0) 7 all, there, last)
 
-        pub has_all : length ls ≤ p.extensions + 1 → Ok p ≡ layout_of ls
-        unfolding layout_of layout_by wrong_at
-        has_all h = rw (le-ltb (heads 7 ls 0) 7 all, there, last, eq-eqb (p.extensions + 1) (p.extensions + 1) refl, le-leb (length ls) (p.extensions + 1) h)
+        pub too_many : p.extensions + 1 < length ls → Err (p.extensions + 1) ≡ layout_of ls
+        unfolding layout_of
+        too_many = line_too_many ls p (p.extensions + 1) none_wrong refl
+
+        pub all_there : length ls ≤ p.extensions + 1 → Ok p ≡ layout_of ls
+        unfolding layout_of
+        all_there = has_all ls p (p.extensions + 1) none_wrong refl

@@ -88,8 +88,8 @@ module _ {A : Type 0} {n : ℕ} {d : A} {xs items : List A} {i : ℕ} (f : Fille
   pub one_more : (x : A) → i < n → Some x ≡ slice_get xs i → Filled n d xs (set items i x) (i + 1)
   one_more x room e = let t = there xs i x d e in turned f d room t.0 t.1
 
-  pub no_more : None ≡ slice_get xs i → Holds n d xs items i
-  no_more e = over f (none_there xs i e)
+  pub none_more : None ≡ slice_get xs i → Holds n d xs items i
+  none_more e = over f (none_there xs i e)
 
 -- ---- the lines between two places
 
@@ -118,11 +118,27 @@ module _ (s : List ℕ) (from to i : ℕ) where
   pub line_missing : length (content s (from + i)) ≡ 0 → None ≡ slice_get (between s from to) i
   line_missing h = sym (slice_get_past (between s from to) i (omega (arith, long, line_not_there (lines s) (from + i) h)))
 
-  pub line_at : i < to - from → (length (content s (from + i)) ≡ 0 → ⊥) → Some (content s (from + i)) ≡ slice_get (between s from to) i
+  pub line_at : i < to - from → get_or (between s from to) i [] ≡ content s (from + i)
   unfolding between
-  line_at h there =
-      let is : get_or (between s from to) i [] ≡ content s (from + i) = rw (get_or-take, get_or-drop) in
-      sym (slice_get-get_or (between s from to) i [] (omega (arith, long, line_there (counted (lines s)) (from + i) there)) ∙ ap Some is)
+  line_at h = rw (get_or-take, get_or-drop)
+
+  line_some : i < length (between s from to) → 0 < length (get_or (between s from to) i [])
+  line_some h = rw (line_at (omega (arith, long))) (counted_some (lines s) (from + i) (omega (arith, long)))
+
+  -- a line is empty where there are no more, and only there
+  module _ {l : List ℕ} (is : l ≡ get_or (between s from to) i []) where
+    pub more : (length l ≡ 0 → ⊥) → i < length (between s from to)
+    more h = line_there (between s from to) i (rw is at h)
+
+    pub no_more : length l ≡ 0 → length (between s from to) ≤ i
+    no_more h = go (leb (length (between s from to)) i) refl
+      where
+        go : (t : Bool) → leb (length (between s from to)) i ≡ t → length (between s from to) ≤ i
+        go true e = leb-true _ i e
+        go false e = absurd (omega (arith, line_some (leb-false _ i e), rw is at h))
+
+  pub line_told : i < to - from → (length (content s (from + i)) ≡ 0 → ⊥) → Some (content s (from + i)) ≡ slice_get (between s from to) i
+  line_told h there = sym (slice_get-get_or (between s from to) i [] (more (sym (line_at h)) there) ∙ ap Some (line_at h))
 
 -- ---- elements told by lines, each by its place too
 
@@ -222,11 +238,15 @@ module _ (l : List ℕ) (i : ℕ) where
   unfolding numbers_of
   long_numbers = length-map (drop 1 (words l)) (number_of 255) ∙ length-drop 1 (words l)
 
-  pub number_at : last_word l i ≡ false → Some (number_of 255 (l word (i + 1))) ≡ slice_get (numbers_of l) i
+  pub number_at : get_or (numbers_of l) i (number_of 255 []) ≡ number_of 255 (l word (i + 1))
   unfolding numbers_of
-  number_at h =
-      let e : 1 + i ≡ i + 1 = omega arith in
-      sym (slice_get-get_or (numbers_of l) i (number_of 255 []) (omega (arith, long_numbers, leb-false (length (words l)) (suc i) h)) ∙ ap Some (rw (get_or-map (number_of 255) (drop 1 (words l)) i [], get_or-drop, e)))
+  number_at = let e : 1 + i ≡ i + 1 = omega arith in rw (get_or-map (number_of 255) (drop 1 (words l)) i [], get_or-drop, e)
+
+  pub number_there : last_word l i ≡ false → i < length (numbers_of l)
+  number_there h = omega (arith, long_numbers, leb-false (length (words l)) (suc i) h)
+
+  pub number_told : last_word l i ≡ false → Some (number_of 255 (l word (i + 1))) ≡ slice_get (numbers_of l) i
+  number_told h = sym (slice_get-get_or (numbers_of l) i (number_of 255 []) (number_there h) ∙ ap Some number_at)
 
   pub numbers_over : last_word l i ≡ true → None ≡ slice_get (numbers_of l) i
   numbers_over h = sym (slice_get_past (numbers_of l) i (omega (arith, long_numbers, leb-true (length (words l)) (suc i) h)))

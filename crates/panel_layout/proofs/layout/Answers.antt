@@ -3,7 +3,7 @@ use Rattle.std.specs.Prelude.{◌≡◌, length, Err}
 use Rattle.std.proofs.Common.{sym, ap, ◌∙◌, rules}
 use Rattle.text_lines.specs.Lines.{lines, counted}
 use Rattle.panel_forms.specs.Laws.{form_missing, form_there}
-use Rattle.panel_layout.specs.Along.{heads_are, heads_not, is_due, not_due, head_wrong, established_wrong, extensions_wrong, line_too_many, has_all}
+use Rattle.panel_layout.specs.Along.{heads_are, heads_not, is_due, not_due, head_wrong, established_wrong, extensions_wrong, too_many, all_there}
 use Rattle.panel_layout.proofs.layout.Goals as goal
 
 pub returns-in_err-heads : goal.returns-in_err-heads
@@ -35,7 +35,7 @@ returns-then-is_empty c =
     let l = rw c.placed-p.ensures.0 at (is_due 12 ls c.placed-p.result.extensions (sym c.due-2.ensures ∙ c.in_ok-due-2.was)) in
     let e : length c.content.result.now ≡ 0 = search rules in
     rw c.placed-p.ensures.0
-    (has_all ls (heads_are ls (sym c.heads.ensures ∙ c.in_ok-heads.was)) d l (form_missing _ _ (rw (c.content.ensures, c.placed-p.ensures.0) at e)))
+    (all_there ls (heads_are ls (sym c.heads.ensures ∙ c.in_ok-heads.was)) d l (form_missing _ _ (rw (c.content.ensures, c.placed-p.ensures.0) at e)))
 
 pub returns-else-is_empty : goal.returns-else-is_empty
 returns-else-is_empty c =
@@ -44,4 +44,4 @@ returns-else-is_empty c =
     let l = rw c.placed-p.ensures.0 at (is_due 12 ls c.placed-p.result.extensions (sym c.due-2.ensures ∙ c.in_ok-due-2.was)) in
     let e : length c.content.result.now ≡ 0 → ⊥ = λ z. search rules in
     rw c.placed-p.ensures.0
-    (line_too_many ls (heads_are ls (sym c.heads.ensures ∙ c.in_ok-heads.was)) d l (form_there _ _ (rw (c.content.ensures, c.placed-p.ensures.0) at e)))
+    (too_many ls (heads_are ls (sym c.heads.ensures ∙ c.in_ok-heads.was)) d l (form_there _ _ (rw (c.content.ensures, c.placed-p.ensures.0) at e)))

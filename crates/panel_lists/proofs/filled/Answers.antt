@@ -1,7 +1,7 @@
 -- `panel_lists::filled` meets its contract. The invariant: the first i items are in their places. Assumes nothing.
 use Rattle.std.specs.Prelude.{◌≡◌, length}
 use Rattle.std.proofs.Common.{sym, ◌∙◌, arith}
-use Rattle.panel_lists.specs.Laws.{empty, one_more, no_more, full}
+use Rattle.panel_lists.specs.Laws.{empty, one_more, none_more, full}
 use Rattle.panel_lists.proofs.filled.Goals as goal
 
 pub loop-i-init : goal.loop-i-init
@@ -13,7 +13,7 @@ loop-i-preserved g c = λ d xs e h.
 
 pub returns-in-None : goal.returns-in-None
 returns-in-None g c = λ d xs e h.
-    no_more (c.loop-i.invariant d xs e h) (sym c.in-None.is ∙ h c.loop-i.i c.given.result c.loop-i-test.true c.given.ensures)
+    none_more (c.loop-i.invariant d xs e h) (sym c.in-None.is ∙ h c.loop-i.i c.given.result c.loop-i-test.true c.given.ensures)
 
 pub returns : goal.returns
 returns g c = λ d xs e h.

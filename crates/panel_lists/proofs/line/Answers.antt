@@ -1,7 +1,7 @@
 -- `panel_lists::line` meets its contract: by whether the place at i is before the last, and a line stands there. Assumes nothing.
 use Rattle.std.specs.Prelude.{Some, length, ◌≡◌}
 use Rattle.std.proofs.Common.{ap, ◌∙◌, rules}
-use Rattle.panel_lists.specs.Laws.{line_past, line_missing, line_at}
+use Rattle.panel_lists.specs.Laws.{line_past, line_missing, line_told}
 use Rattle.panel_lists.proofs.line.Goals as goal
 
 pub returns-then-i-saturating_sub : goal.returns-then-i-saturating_sub
@@ -17,4 +17,4 @@ pub returns-else-is_empty : goal.returns-else-is_empty
 returns-else-is_empty c =
     let h = rw c.saturating_sub.ensures at c.if-i-saturating_sub.false in
     let e : length c.content-l.result.now ≡ 0 → ⊥ = λ z. search rules in
-    ap Some c.content-l.ensures ∙ line_at _ _ _ _ h (rw c.content-l.ensures at e)
+    ap Some c.content-l.ensures ∙ line_told _ _ _ _ h (rw c.content-l.ensures at e)
