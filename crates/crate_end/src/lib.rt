@@ -73,10 +73,11 @@ fn pass_piece(i: usize, c: &mut Cursor) -> Result<(), Refusal>
 }
 
 // The extension count, and the place behind it.
-fn last_end(c: &mut Cursor) -> Result<usize, Refusal>
-    ensures { ended tt result ≡ run (skip 1) c.old.bytes.now c.old.at }
+fn last_end(c: Cursor) -> Result<usize, Refusal>
+    ensures { ended tt result ≡ run (skip 1) c.entry.bytes.now c.entry.at }
 {
-    crate_text::take_skip(c, 1)?;
+    let mut c = c;
+    crate_text::take_skip(&mut c, 1)?;
     Ok(c.at)
 }
 
@@ -98,7 +99,7 @@ pub fn go_on(piece: usize, at: usize, s: &[u8]) -> Came
     Came {
         piece: piece.max(5),
         at: c.at,
-        end: last_end(&mut c),
+        end: last_end(c),
     }
 }
 
