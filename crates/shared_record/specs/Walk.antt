@@ -1,7 +1,7 @@
--- A walk over the flags that lists in an array those that are on, and what it comes to. The code pushes them (`pushed_on`, `pushed_off` of `fixed`).
+-- A walk over the flags that lists in an array those that are on, and what it comes to; a push, for which there is room, is a turn of it.
 use Rattle.std.specs.Prelude.{ℕ, ◌+◌, ◌%◌, ◌<◌, ◌≤◌, ◌≡◌, refl, Bool, true, false, List, [], ◌++◌, set}
 use Rattle.std.proofs.Common.{sym, ap, ◌∙◌, mod-eq_of_lt, arith}
-use Rattle.fixed.specs.Fixed.{pad}
+use Rattle.fixed.specs.Fixed.{pad, put_room, more_room, push}
 use Rattle.fixed.specs.Gather.{gather, when, when_at_most, gather_more, gather_at_most, Holds, held_at_most, took, kept}
 use Rattle.shared_record.specs.Established.{EstablishedTimings, established_timings}
 
@@ -11,6 +11,12 @@ Listed items len xs = ◌≡◌ {A = EstablishedTimings} (record { items = items
 
 listed : {xs items : List ℕ} {len : ℕ} → Holds 17 0 xs items len → Listed items len xs
 listed h i = record { items = h.are i; len = h.many i }
+
+-- a push, for which there is room, as array and length
+pub pushed_room : (l : EstablishedTimings) (v : ℕ) → l.len < 17
+    → ◌≡◌ {A = EstablishedTimings} (push 17 l v) (record { items = set l.items l.len v; len = l.len + 1 })
+unfolding push
+pushed_room l v room i = record { items = put_room 17 l.items l.len v room i; len = more_room 17 l.len room i }
 
 module _ (on : ℕ → Bool) where
   -- the numbers of those of the first k that are on
