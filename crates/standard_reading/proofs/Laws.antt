@@ -1,20 +1,30 @@
--- What the proof of the loop over the slots cites: a turn, a refusal, and the lists as the code holds them. Assumes nothing.
+-- What the proof of the loop over the slots cites: a turn, a refusal, the lists as the code holds them, and the room in them. Assumes nothing.
 use Rattle.std.specs.Prelude.{Ok, Err}
-use Prim.Native.Nat.{ℕ, zero, suc, ◌+◌, ◌-◌, ◌<◌}
+use Prim.Native.Nat.{ℕ, zero, suc, ◌+◌, ◌-◌, ◌*◌, ◌≤◌, ◌<◌}
 use mathlib.Core.Path.{◌≡◌, refl, ap, ◌∙◌}
-use mathlib.Core.List.{List}
+use mathlib.Core.List.{List, ◌++◌, map}
 use native.Mathlib.Numerals.{add-one}
 use native.Mathlib.Omega.{arith}
-use lib.ListN.{length}
+use lib.ListN.{length, length-append, length-map}
+use Rattle.fixed.specs.Fixed.{count_at_most, more_room, push}
+use Rattle.fixed.specs.declared.Fixed.{Fixed}
+use Rattle.fixed.specs.Gather.{Holds, held_at_most}
 use Rattle.steps.specs.declared.Refusal.{Refusal}
 use Rattle.standard_record.specs.declared.StandardTiming.{StandardTiming}
-use Rattle.standard_slots.specs.Said.{refusal}
+use Rattle.standard_record.specs.declared.HeldPair.{HeldPair}
+use Rattle.standard_record.specs.Filler.{blank_standard}
+use Rattle.standard_record.specs.Held.{held_pair}
+use Rattle.standard_parts.specs.declared.Structure.{Structure}
+use Rattle.standard_slots.specs.Few.{pairs_at_most}
+use Rattle.standard_slots.specs.Said.{refusal, pairs_at}
 use Rattle.standard_slots.specs.Answers.{of_slot}
 use Rattle.standard_slots.specs.declared.Slot.{Slot}
 use Rattle.standard_verdict.specs.Verdict.{refused_at, ◌then◌}
 use Rattle.standard_reading.specs.Slots.{start, said_in, judge, judged}
 use Rattle.standard_reading.specs.Lists.{ListsOf}
-use Rattle.standard_reading.specs.Filling.{lists_of}
+use Rattle.standard_reading.specs.Block.{timings_of, pairs_of, points_of, descriptors_of}
+use Rattle.standard_reading.specs.Room.{timings_room, pairs_room, points_room, descriptors_room}
+use Rattle.standard_reading.specs.Filling.{Roomy, lists_of}
 use Rattle.standard_reading.specs.declared.Lists.{Lists}
 
 -- a refusal stays
@@ -52,3 +62,34 @@ lists_are e h =
       detailed = ap (λ (a : Lists). a.detailed) h;
       described = ap (λ (a : Lists). a.descriptors) h;
     }
+
+-- ---- room: no store asks for it
+
+-- pairs behind those of the first i slots
+pub pairs_so_far : (s : List ℕ) (σ : Structure) (t : List ℕ) (i k : ℕ) {st : List HeldPair} {ns : ℕ}
+    → Holds 26 blank_standard (pairs_of s i ++ map (held_pair.wrap (i + 1)) (pairs_at σ t 5 k)) st ns → ns ≤ 8 + (i - 1) * 6 + k
+pairs_so_far s σ t i k h =
+    let w = held_pair.wrap (i + 1) in
+    omega (
+      arith,
+      held_at_most h,
+      length-append (pairs_of s i) (map w (pairs_at σ t 5 k)),
+      length-map (pairs_at σ t 5 k) w,
+      pairs_room s i,
+      pairs_at_most σ t 5 k,
+    )
+
+-- for one slot more
+pub roomy : (s : List ℕ) (i : ℕ) → i < 4 → Roomy (lists_of s i)
+roomy s i m =
+    record {
+      pairs = omega (arith, m, count_at_most 26 (pairs_of s i), pairs_room s i);
+      detailed = omega (arith, m, count_at_most 4 (timings_of s i), timings_room s i);
+      points = omega (arith, m, count_at_most 6 (points_of s i), points_room s i);
+      descriptors = omega (arith, m, count_at_most 3 (descriptors_of s i), descriptors_room s i);
+    }
+
+-- a push, for which there is room, makes the list one longer
+pub one_longer : {A : Type 0} (n : ℕ) (l : Fixed A n) {l' : Fixed A n} (v : A) → l' ≡ push n l v → l.len < n → l'.len ≡ l.len + 1
+unfolding push
+one_longer {A} n l v e h = ap (λ (l : Fixed A n). l.len) e ∙ more_room n l.len h

@@ -1,5 +1,5 @@
 -- Nothing to believe: how the code fills its lists, and that this comes to those that the block says.
-use Rattle.std.specs.Prelude.{ℕ, ◌+◌, ◌≡◌, List, [], ◌++◌, map}
+use Rattle.std.specs.Prelude.{ℕ, ◌+◌, ◌<◌, ◌≤◌, ◌≡◌, List, [], ◌++◌, map}
 use Rattle.std.proofs.Common.{sym, ap, ◌∙◌, append_assoc, append-nil}
 use Rattle.fixed.specs.Fixed.{push, pushed, pushed_fixed}
 use Rattle.fixed.specs.Gather.{gather, gather_more}
@@ -28,6 +28,13 @@ with_slot a n x = record {
   points = pushed (push 6) a.points (map (held_point.wrap n) (lists x).points);
   descriptors = pushed (push 3) a.descriptors (map (held.wrap n) (lists x).descriptors);
 }
+
+-- there is room for what a slot may say
+pub record Roomy (a : Lists) : Type 0 where
+  pub pairs : a.standard.len + 6 ≤ 26
+  pub detailed : a.detailed.len < 4
+  pub points : a.points.len + 1 < 6
+  pub descriptors : a.descriptors.len < 3
 
 -- those of the first n slots
 abbrev pub lists_of : List ℕ → ℕ → Lists

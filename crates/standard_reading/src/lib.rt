@@ -1,15 +1,17 @@
 // The standard reading of a block: judged in the order of the refusals, 7, 2, 8, 9, then slot after slot; each slot is looked at once.
 #![tactic(auto)]
 
-ghost use Rattle.std.specs.Prelude.{◌≡◌, ◌+◌, ◌*◌, ◌≤◌, length, Ok, Err};
+ghost use Rattle.std.specs.Prelude.{◌≡◌, ◌+◌, ◌*◌, ◌≤◌, ◌<◌, length, Ok, Err};
+ghost use Rattle.fixed.specs.Fixed.{push};
 ghost use Rattle.standard_record.specs.Filler.{blank};
 ghost use Rattle.standard_verdict.specs.Verdict.{before_slots};
 ghost use Rattle.standard_reading.specs.Block.{record_of, standard_of};
 ghost use Rattle.standard_reading.specs.Lists.{ListsOf};
-ghost use Rattle.standard_reading.specs.Filling.{with_pairs, with_slot};
+ghost use Rattle.standard_reading.specs.Filling.{Roomy, with_pairs, with_slot};
 ghost use Rattle.standard_slots.specs.Said.{pairs_at, pairs_in};
 ghost use Rattle.standard_slots.specs.Answers.{of_slot};
 
+use fixed::Fixed;
 use shared_record::Version;
 use standard_parts::Structure;
 use standard_record::{
@@ -69,6 +71,16 @@ fn refuse(f: Refusal) -> StandardReading
 
 // ---- the slots
 
+// One entry more, for which there is room: no test asks.
+#[tactic(auto, using(fixed::specs::Fixed::put_room, fixed::specs::Fixed::more_room), unfolding(fixed::specs::Fixed::push))]
+fn put<T: Copy, const N: usize>(list: &mut Fixed<T, N>, item: T)
+    requires { list.old.len < N }
+    ensures { list.new ≡ push N list.old item }
+{
+    list.items[list.len] = item;
+    list.len += 1;
+}
+
 // n pairs from the place `from` on, each onto the list.
 fn list_pairs(
     list: &mut StandardTimings,
@@ -78,13 +90,13 @@ fn list_pairs(
     n: usize,
     slot: u16,
 )
-    requires { (from + 2 * n ≤ length t.now) × (length t.now ≤ 128) }
+    requires { (from + 2 * n ≤ length t.now) × (length t.now ≤ 128) × (list.old.len + n ≤ 26) }
     ensures { list.new ≡ with_pairs list.old slot (pairs_at structure t.now from n) }
 {
     for k in 0..n {
         let a = from + 2 * k;
         if let Some(pair) = standard_parts::pair_of(structure, t[a], t[a + 1]) {
-            list.push(HeldPair { pair, slot });
+            put(list, HeldPair { pair, slot });
         }
     }
 }
@@ -92,20 +104,20 @@ fn list_pairs(
 impl Lists {
     // What a slot of the bytes t says; an fa slot's pairs are read here.
     fn list_slot(&mut self, says: Slot, structure: Structure, t: &[u8], slot: u16)
-        requires { length t.now ≡ 18 }
+        requires { (length t.now ≡ 18) × Roomy self.old }
         ensures { self.new ≡ with_slot self.old slot (of_slot (pairs_in structure t.now) (Ok says)) }
     {
         match says {
             Slot::Nothing => {}
-            Slot::Timing(timing) => self.detailed.push(HeldTiming { timing, slot }),
+            Slot::Timing(timing) => put(&mut self.detailed, HeldTiming { timing, slot }),
             Slot::Pairs => list_pairs(&mut self.standard, structure, t, 5, 6, slot),
             Slot::Points(Points::None) => {}
-            Slot::Points(Points::One(point)) => self.points.push(HeldPoint { point, slot }),
+            Slot::Points(Points::One(point)) => put(&mut self.points, HeldPoint { point, slot }),
             Slot::Points(Points::Two(p, q)) => {
-                self.points.push(HeldPoint { point: p, slot });
-                self.points.push(HeldPoint { point: q, slot });
+                put(&mut self.points, HeldPoint { point: p, slot });
+                put(&mut self.points, HeldPoint { point: q, slot });
             }
-            Slot::Described(descriptor) => self.descriptors.push(Held { descriptor, slot }),
+            Slot::Described(descriptor) => put(&mut self.descriptors, Held { descriptor, slot }),
         }
     }
 }

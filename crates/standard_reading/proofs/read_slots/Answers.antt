@@ -1,6 +1,7 @@
 -- `standard_reading::read_slots` meets its contract. The invariant: no slot passed is refused, and the lists hold what they list. Assumes nothing.
 use Rattle.std.specs.Prelude.{Ok, []}
 use Rattle.std.proofs.Common.{◌≡◌, sym, ap, ◌∙◌}
+use Rattle.std.proofs.lemmas.Grind.{common_steps}
 use Prim.Native.Nat.{◌+◌, ◌-◌}
 use lib.ListN.{take, drop}
 use native.Mathlib.Nat.{add-sub_cancel_left}
@@ -14,7 +15,7 @@ use Rattle.standard_reading.specs.Slots.{start, said_in, judged}
 use Rattle.standard_reading.specs.Block.{standard_of}
 use Rattle.standard_reading.specs.Filling.{eight_listed, slot_listed, with_slot}
 use Rattle.standard_reading.specs.declared.Lists.{Lists}
-use Rattle.standard_reading.proofs.Laws.{decides, passes, lists_are}
+use Rattle.standard_reading.proofs.Laws.{decides, passes, lists_are, roomy}
 use Rattle.standard_reading.proofs.read_slots.Goals as goal
 
 pub loop-i-init : goal.loop-i-init
@@ -22,6 +23,12 @@ unfolding judged
 loop-i-init c =
     let eight = c.list_pairs.ensures ∙ rw c.structure_of-structure.ensures (eight_listed c.args.s.now) in
     (c.requires.1, λ j. record { standard = eight j; detailed = detailed_timings []; points = white_points []; descriptors = descriptors [] })
+
+pub list_slot-requires : goal.list_slot-requires
+list_slot-requires c =
+    let i = c.loop-i.i in
+    let e = c.loop-i.invariant.1 in
+    (grind (arith, common_steps, c.requires.0), rw e (roomy c.args.s.now i (omega (arith, c.loop-i-test.true))))
 
 pub returns-in-Err : goal.returns-in-Err
 unfolding standard_of
