@@ -1,10 +1,12 @@
--- What holds of the steps, over every list of bytes: how each ends and why, and that the number tells. That each reason gives its end and each end has
--- its reason, and that a step and the step back give the same bytes, is in proofs/Promises.
-use Rattle.std.specs.Prelude.{ℕ, zero, suc, ◌+◌, ◌^◌, ◌≤◌, ◌<◌, ◌≡◌, refl, Bool, true, false, ◌&&◌, ◌||◌, List, ◌⊎◌, eqb, leb, length, take}
+-- What holds of the steps, over every list of bytes: how each ends and why, that the number tells, and that one answer fits. That each reason gives
+-- its end and each end has its reason, and that a step and the step back give the same bytes, is in proofs/Promises.
+use Rattle.std.specs.Prelude.{ℕ, zero, suc, ◌+◌, ◌^◌, ◌≤◌, ◌<◌, ◌≡◌, refl, Bool, true, false, ◌&&◌, ◌||◌, List, ◌⊎◌, eqb, leb, length, take, Result}
 use Rattle.std.proofs.Common.{sym, ap, ◌∙◌, true≢false, inl, inr, eq-or-lt_of_le, arith, eqb-true, eq-eqb, ne_eqb, length-append, drop-cons}
 use Rattle.std.proofs.Math.Bool.{and-false}
 use Rattle.std.proofs.lemmas.Bool.{eqb-false}
 use Rattle.bits.specs.Bytes.{◌!◌, part}
+use Rattle.register.specs.declared.StepRefusal.{StepRefusal}
+use Rattle.register.specs.Refusals.{told, one_told}
 use Rattle.register.specs.Register.{zeros, short, long, Step, Refused, Record, must, all_zero, step_up, step_down, written, into}
 
 -- ---- the layouts, stepped
@@ -107,3 +109,11 @@ nonzero_refuses size output after step number h e =
     by : (step : Step) → (number, after) ≡ written output step → (after ≡ output) × (step ≡ Refused number)
     by (Refused n) e = (ap (λ (p : ℕ × List ℕ). p.1) e, ap Refused (sym (ap (λ (p : ℕ × List ℕ). p.0) e)))
     by (Record t) e = absurd (h (ap (λ (p : ℕ × List ℕ). p.0) e))
+
+-- ---- at most one answer of a step fits, and one output
+
+pub one_answer : (size : ℕ) (output : List ℕ) (step : Step) {after after' : List ℕ} {a a' : Result Unit StepRefusal} → (told a, after) ≡ into size output step
+    → (told a', after') ≡ into size output step → (a ≡ a') × (after ≡ after')
+one_answer size output step e e' =
+    let same = e ∙ sym e' in
+    (one_told (ap (λ (p : ℕ × List ℕ). p.0) same), ap (λ (p : ℕ × List ℕ). p.1) same)
