@@ -117,9 +117,8 @@ pub fn edid_pick(block: &[u8], clock: u32, across: u16, down: u16, numbers: &mut
         across: Pixels(across),
         down: Lines(down),
     };
-    let reading = standard_reading::read_standard(block);
-    if let Err(f) = reading.end {
-        return u32::from(f.number);
+    match standard_reading::read_timings(block) {
+        Ok(list) => show(limits, list, numbers),
+        Err(f) => u32::from(f.number),
     }
-    show(limits, reading.edid.timings.detailed, numbers)
 }

@@ -16,7 +16,7 @@ use Rattle.standard_record.specs.Filler.{blank_standard}
 use Rattle.standard_record.specs.Held.{held_pair}
 use Rattle.standard_parts.specs.declared.Structure.{Structure}
 use Rattle.standard_slots.specs.Few.{pairs_at_most}
-use Rattle.standard_slots.specs.Said.{refusal, pairs_at}
+use Rattle.standard_slots.specs.Said.{refusal, pairs_at, lists}
 use Rattle.standard_slots.specs.Answers.{of_slot}
 use Rattle.standard_slots.specs.declared.Slot.{Slot}
 use Rattle.standard_verdict.specs.Verdict.{refused_at, ◌then◌}
@@ -93,3 +93,11 @@ roomy s i m =
 pub one_longer : {A : Type 0} (n : ℕ) (l : Fixed A n) {l' : Fixed A n} (v : A) → l' ≡ push n l v → l.len < n → l'.len ≡ l.len + 1
 unfolding push
 one_longer {A} n l v e h = ap (λ (l : Fixed A n). l.len) e ∙ more_room n l.len h
+
+-- what a slot lists of timings does not rest on its pairs
+pub timings_alone : (ps qs : List StandardTiming) (x : Slot) → (lists (of_slot ps (Ok x))).timings ≡ (lists (of_slot qs (Ok x))).timings
+timings_alone ps qs Slot.Nothing = refl
+timings_alone ps qs (Slot.Timing d) = refl
+timings_alone ps qs Slot.Pairs = refl
+timings_alone ps qs (Slot.Points ws) = refl
+timings_alone ps qs (Slot.Described d) = refl

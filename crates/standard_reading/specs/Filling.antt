@@ -5,7 +5,7 @@ use Rattle.fixed.specs.Fixed.{push, pushed, pushed_fixed}
 use Rattle.fixed.specs.Gather.{gather, gather_more}
 use Rattle.standard_record.specs.Filler.{blank_white, blank_standard, blank_detailed, blank_held}
 use Rattle.standard_record.specs.Held.{held_point, held_pair, held_timing, held}
-use Rattle.standard_record.specs.Lists.{StandardTimings, white_points, standard_timings, detailed_timings, descriptors}
+use Rattle.standard_record.specs.Lists.{StandardTimings, DetailedTimings, white_points, standard_timings, detailed_timings, descriptors}
 use Rattle.standard_record.specs.declared.StandardTiming.{StandardTiming}
 use Rattle.standard_record.specs.declared.HeldPoint.{HeldPoint}
 use Rattle.standard_record.specs.declared.HeldPair.{HeldPair}
@@ -20,11 +20,15 @@ use Rattle.standard_reading.specs.Block.{timings_of, eight_in, pairs_of, points_
 abbrev pub with_pairs : StandardTimings → ℕ → List StandardTiming → StandardTimings
 with_pairs l n ps = pushed (push 26) l (map (held_pair.wrap n) ps)
 
+-- the timing of slot n, if that is what it says
+abbrev pub with_timings : DetailedTimings → ℕ → Said → DetailedTimings
+with_timings l n x = pushed (push 4) l (map (held_timing.wrap n) (lists x).timings)
+
 -- what slot n says, which is x
 abbrev pub with_slot : Lists → ℕ → Said → Lists
 with_slot a n x = record {
   standard = with_pairs a.standard n (lists x).pairs;
-  detailed = pushed (push 4) a.detailed (map (held_timing.wrap n) (lists x).timings);
+  detailed = with_timings a.detailed n x;
   points = pushed (push 6) a.points (map (held_point.wrap n) (lists x).points);
   descriptors = pushed (push 3) a.descriptors (map (held.wrap n) (lists x).descriptors);
 }

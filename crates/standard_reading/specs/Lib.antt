@@ -6,3 +6,4 @@ pub mod Filling
 pub mod Judged
 pub mod Room
 pub mod Entries
+pub mod Told

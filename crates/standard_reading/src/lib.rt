@@ -1,13 +1,14 @@
 // The standard reading of a block: judged in the order of the refusals, 7, 2, 8, 9, then slot after slot; each slot is looked at once.
 #![tactic(auto)]
 
-ghost use Rattle.std.specs.Prelude.{◌≡◌, ◌+◌, ◌*◌, ◌≤◌, ◌<◌, length, Ok, Err};
+ghost use Rattle.std.specs.Prelude.{◌≡◌, ◌+◌, ◌*◌, ◌≤◌, ◌<◌, [], length, Ok, Err};
 ghost use Rattle.fixed.specs.Fixed.{push};
 ghost use Rattle.standard_record.specs.Filler.{blank};
 ghost use Rattle.standard_verdict.specs.Verdict.{before_slots};
 ghost use Rattle.standard_reading.specs.Block.{record_of, standard_of};
 ghost use Rattle.standard_reading.specs.Lists.{ListsOf};
-ghost use Rattle.standard_reading.specs.Filling.{Roomy, with_pairs, with_slot};
+ghost use Rattle.standard_reading.specs.Told.{timings_told};
+ghost use Rattle.standard_reading.specs.Filling.{Roomy, with_pairs, with_timings, with_slot};
 ghost use Rattle.standard_slots.specs.Said.{pairs_at, pairs_in};
 ghost use Rattle.standard_slots.specs.Answers.{of_slot};
 
@@ -161,6 +162,51 @@ fn read_slots(s: &[u8]) -> StandardReading
     let edid = record_of(s, lists);
     StandardReading { edid, end: Ok(()) }
 }
+
+// ---- the timings alone
+
+// A timing onto the list, and nothing else of what a slot says.
+fn list_timing(list: &mut DetailedTimings, says: Slot, slot: u16)
+    requires { list.old.len < 4 }
+    ensures { list.new ≡ with_timings list.old slot (of_slot [] (Ok says)) }
+{
+    if let Slot::Timing(timing) = says {
+        put(list, HeldTiming { timing, slot });
+    }
+}
+
+// As `read_slots`, with no other list: of a list that is filled, and then not asked for, the compiler leaves nothing out.
+fn read_slot_timings(block: &[u8]) -> Result<DetailedTimings, Refusal>
+    requires { (length block.now ≡ 128) × (before_slots block.now ≡ Ok tt) }
+    ensures { result ≡ timings_told (standard_of block.now) }
+{
+    let structure = standard_parts::structure_of(block[19]);
+    let mut list = DetailedTimings {
+        items: [BLANK_DETAILED; 4],
+        len: 0,
+    };
+    for k in 0..4u8 {
+        let place = 54 + 18 * k;
+        let at = place as usize;
+        match standard_slots::said(structure, k, &block[at..at + 18], place) {
+            Ok(says) => list_timing(&mut list, says, k as u16 + 1),
+            Err(number) => return Err(Refusal { number, at }),
+        }
+    }
+    Ok(list)
+}
+
+// The detailed timings of a block, or its refusal: what `read_standard` answers of these.
+pub fn read_timings(block: &[u8]) -> Result<DetailedTimings, Refusal>
+    ensures { result ≡ timings_told (standard_of block.now) }
+{
+    match standard_verdict::before_slots(block) {
+        Ok(()) => read_slot_timings(block),
+        Err(f) => Err(f),
+    }
+}
+
+// ---- all of it
 
 pub fn read_standard(s: &[u8]) -> StandardReading
     ensures { result ≡ standard_of s.now }

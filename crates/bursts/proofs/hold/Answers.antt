@@ -1,21 +1,32 @@
--- `bursts::hold` meets its contract: the burst's first bytes are pasted in. Assumes nothing.
-use Rattle.std.proofs.Common.{rules, ℕ, ◌≡◌, ◌+◌, ◌-◌, List, length, set, take, ap, ◌∙◌, arith, length-take}
-use Rattle.std.proofs.lemmas.Slice.{put_mid-paste}
+-- `bursts::hold` meets its contract. The invariant: the first i bytes of the burst are pasted in. Assumes nothing.
+use Rattle.std.proofs.Common.{rules, ℕ, ◌≡◌, ◌+◌, List, set, ap, sym, ◌∙◌, add-one, arith}
+use lib.ListN.{get_or}
+use lib.Seq.{paste, paste-zero, paste-suc}
 use Rattle.bursts.specs.Bursts.{held, stage}
-use Rattle.bursts.specs.Laws.{paste_first, holds_more, stage_same}
+use Rattle.bursts.specs.Laws.{holds_more, stage_same}
 use Rattle.bursts.proofs.hold.Goals as goal
+
+pub loop-i-init : goal.loop-i-init
+loop-i-init c = paste-zero c.args.state.now c.count-from.result c.args.burst.now
+
+pub loop-i-preserved : goal.loop-i-preserved
+loop-i-preserved c =
+    let a = c.args in
+    let i = c.loop-i.i in
+    let from = c.count-from.result in
+    ap (λ (l : List ℕ). set l (from + i) (get_or a.burst.now i 0)) c.loop-i.invariant
+    ∙ paste-suc a.state.now from a.burst.now i 0 (search rules) (search rules)
+    ∙ ap (paste a.state.now from a.burst.now) (sym (add-one i))
 
 pub returns : goal.returns
 returns c =
-    let state = c.args.state.now in
-    let burst = c.args.burst.now in
+    let a = c.args in
     let from = c.count-from.result in
     let many = c.min-many.result in
+    let done : c.loop-i.i ≡ many = omega (arith, c.loop-i.auto.i-end, c.loop-i-test.false) in
+    let filled : c.loop-i.state ≡ paste a.state.now from a.burst.now many = c.loop-i.invariant ∙ ap (paste a.state.now from a.burst.now) done in
     let f = c.count-from.ensures in
-    let m = c.min-many.ensures in
-    let all : many ≡ from + many - from = omega arith in
-    let size : many ≡ length (take many burst) = omega (arith, m, length-take many burst) in
-    let filled = put_mid-paste from (from + many - from) state _ (take many burst) many c.copy_from_slice.ensures.after all size ∙ paste_first state from burst many in (
-      ap (λ (l : List ℕ). held (set l 142 (from + many))) filled ∙ holds_more state burst from many (search rules) f m,
-      ap (λ (l : List ℕ). stage (set l 142 (from + many))) filled ∙ stage_same state burst from many (search rules) f m,
+    let m = c.min-many.ensures in (
+      ap (λ (l : List ℕ). held (set l 142 (from + many))) filled ∙ holds_more a.state.now a.burst.now from many (search rules) f m,
+      ap (λ (l : List ℕ). stage (set l 142 (from + many))) filled ∙ stage_same a.state.now a.burst.now from many (search rules) f m,
     )
