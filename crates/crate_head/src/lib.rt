@@ -182,6 +182,7 @@ fn take_display(c: &mut Cursor) -> Result<DisplayParameters, Refusal>
     })
 }
 
+#[inline(always)]
 fn take_color(c: &mut Cursor) -> Result<Chromaticities, Refusal>
     ensures { Took color c.old result c.new }
 {

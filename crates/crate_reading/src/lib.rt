@@ -18,6 +18,7 @@ use shared_record::EstablishedTimings;
 use steps::{Cursor, Refusal};
 
 // The parts, rearranged: the timing information all in one place.
+#[inline(always)]
 fn edid_of(front: Front, established: EstablishedTimings, lists: Lists, extensions: u8) -> EDID
     ensures { result ≡ edid_of front established lists extensions }
 {
@@ -45,12 +46,14 @@ fn edid_of(front: Front, established: EstablishedTimings, lists: Lists, extensio
 }
 
 // The eight pairs before the slots.
+#[inline(always)]
 fn take_eight(c: &mut Cursor) -> Result<StandardTimings, Refusal>
     ensures { Took (map standard_timings (pairs 8)) c.old result c.new }
 {
     crate_timings::take_pairs(c, 8, crate_timings::no_standard())
 }
 
+#[inline(always)]
 fn take_edid(c: &mut Cursor) -> Result<EDID, Refusal>
     ensures { Took reading c.old result c.new }
 {

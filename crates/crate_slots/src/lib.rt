@@ -24,6 +24,7 @@ pub struct Lists {
 }
 
 // What a descriptor adds to the lists; where it is refused they stay.
+#[inline(always)]
 fn take_described(c: &mut Cursor, lists: &mut Lists) -> Result<(), Refusal>
     ensures takes { Took (fill_described lists.old) c.old (with_value lists.new result) c.new }
     ensures stays { OnErr result (lists.new ≡ lists.old) }
@@ -46,6 +47,7 @@ fn take_described(c: &mut Cursor, lists: &mut Lists) -> Result<(), Refusal>
 }
 
 // What the slot i adds to them; where it is refused they stay.
+#[inline(always)]
 fn take_slot(i: usize, c: &mut Cursor, lists: &mut Lists) -> Result<(), Refusal>
     ensures takes { Took (fill_slot i lists.old) c.old (with_value lists.new result) c.new }
     ensures stays { OnErr result (lists.new ≡ lists.old) }
@@ -63,6 +65,7 @@ fn take_slot(i: usize, c: &mut Cursor, lists: &mut Lists) -> Result<(), Refusal>
     take_described(c, lists)
 }
 
+#[inline(always)]
 pub fn take_descriptors(c: &mut Cursor, standard: StandardTimings) -> Result<Lists, Refusal>
     ensures { Took (map (lists_after standard) slots) c.old result c.new }
 {

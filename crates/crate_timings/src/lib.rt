@@ -43,6 +43,7 @@ fn pair_of(low: u8, high: u8) -> Option<StandardTiming>
     }
 }
 
+#[inline(always)]
 pub fn take_pair(c: &mut Cursor) -> Result<Option<StandardTiming>, Refusal>
     ensures { Took pair c.old result c.new }
 {
@@ -50,6 +51,7 @@ pub fn take_pair(c: &mut Cursor) -> Result<Option<StandardTiming>, Refusal>
     Ok(pair_of(low, high))
 }
 
+#[inline(always)]
 pub fn no_standard() -> StandardTimings
     ensures { result ≡ standard_timings [] }
 {
@@ -60,6 +62,7 @@ pub fn no_standard() -> StandardTimings
 }
 
 // n pairs, each onto the list.
+#[inline(always)]
 pub fn take_pairs(
     c: &mut Cursor,
     n: usize,

@@ -13,6 +13,7 @@ pub struct Fixed<T, const N: usize> {
 
 impl<T: Copy, const N: usize> Fixed<T, N> {
     // A full list stays as it is.
+    #[inline(always)]
     #[tactic(auto, unfolding(crate::specs::Fixed::push))]
     pub fn push(&mut self, item: T)
         ensures { self.new ≡ push N self.old item }

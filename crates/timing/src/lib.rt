@@ -112,6 +112,7 @@ fn back_porch<L: Length>(blanking: L, front: L, sync: L) -> Option<L>
 }
 
 // None: sync and front porch exceed the blanking.
+#[inline(always)]
 #[tactic(auto, unfolding(crate::specs::Axis::across_of))]
 pub fn across_of(b2: u8, b3: u8, b4: u8, b8: u8, b9: u8, b11: u8) -> Option<Across>
     ensures { result ≡ across_of b2 b3 b4 b8 b9 b11 }
@@ -130,6 +131,7 @@ pub fn across_of(b2: u8, b3: u8, b4: u8, b8: u8, b9: u8, b11: u8) -> Option<Acro
 }
 
 // The same of the lines.
+#[inline(always)]
 #[tactic(auto, using(bits::specs::Laws::digits_under), unfolding(crate::specs::Axis::down_of))]
 pub fn down_of(b5: u8, b6: u8, b7: u8, b10: u8, b11: u8) -> Option<Down>
     ensures { result ≡ down_of b5 b6 b7 b10 b11 }
