@@ -119,6 +119,6 @@ pub fn edid_pick(block: &[u8], clock: u32, across: u16, down: u16, numbers: &mut
     };
     match standard_reading::read_timings(block) {
         Ok(list) => show(limits, list, numbers),
-        Err(f) => u32::from(f.number),
+        Err(refusal) => u32::from(refusal.number),
     }
 }
