@@ -89,6 +89,7 @@ pub fn edid_burst_taken(state: &[u8; 146]) -> usize
 // ---- of the timing to show
 
 // The chosen timing's numbers are written over the first fourteen.
+#[inline(always)]
 fn show(limits: Limits, list: DetailedTimings, numbers: &mut [u32]) -> u32
     requires { 14 ≤ length numbers.old }
     ensures { (result, numbers.new) ≡ shown list numbers.old (choice limits (listed list)) }

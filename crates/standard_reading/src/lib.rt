@@ -73,6 +73,7 @@ fn refuse(f: Refusal) -> StandardReading
 // ---- the slots
 
 // One entry more, for which there is room: no test asks.
+#[inline(always)]
 #[tactic(auto, using(fixed::specs::Fixed::put_room, fixed::specs::Fixed::more_room), unfolding(fixed::specs::Fixed::push))]
 fn put<T: Copy, const N: usize>(list: &mut Fixed<T, N>, item: T)
     requires { list.old.len < N }
@@ -166,6 +167,7 @@ fn read_slots(s: &[u8]) -> StandardReading
 // ---- the timings alone
 
 // A timing onto the list, and nothing else of what a slot says.
+#[inline(always)]
 fn list_timing(list: &mut DetailedTimings, says: Slot, slot: u16)
     requires { list.old.len < 4 }
     ensures { list.new ≡ with_timings list.old slot (of_slot [] (Ok says)) }
@@ -176,6 +178,7 @@ fn list_timing(list: &mut DetailedTimings, says: Slot, slot: u16)
 }
 
 // As `read_slots`, with no other list: of a list that is filled, and then not asked for, the compiler leaves nothing out.
+#[inline(always)]
 fn read_slot_timings(block: &[u8]) -> Result<DetailedTimings, Refusal>
     requires { (length block.now ≡ 128) × (before_slots block.now ≡ Ok tt) }
     ensures { result ≡ timings_told (standard_of block.now) }
@@ -197,6 +200,7 @@ fn read_slot_timings(block: &[u8]) -> Result<DetailedTimings, Refusal>
 }
 
 // The detailed timings of a block, or its refusal: what `read_standard` answers of these.
+#[inline(always)]
 pub fn read_timings(block: &[u8]) -> Result<DetailedTimings, Refusal>
     ensures { result ≡ timings_told (standard_of block.now) }
 {
