@@ -1,14 +1,16 @@
 -- What the proofs of the two loops cite: the lists as the code holds them, and a turn of each. Assumes nothing.
 use Rattle.std.specs.Prelude.{Ok, None, Some}
-use Prim.Native.Nat.{ℕ, ◌+◌, ◌≤◌, ◌<◌}
-use mathlib.Core.Path.{◌≡◌, refl, ap, ◌∙◌}
+use Prim.Native.Nat.{ℕ, ◌+◌, ◌-◌, ◌≤◌, ◌<◌, min}
+use mathlib.Core.Path.{◌≡◌, refl, sym, ap, ◌∙◌}
 use mathlib.Core.Bool.{true, false}
 use mathlib.Core.List.{List, [], ◌∷◌, ◌++◌, flat_map}
 use native.Mathlib.Omega.{arith}
-use lib.ListN.{length}
+use lib.ListN.{length, take, drop, set}
+use Rattle.std.proofs.Common.{length-drop, take-append-drop}
 use borrow.Author.Tests.{lt-ltb, le-ltb, le-leb, lt-leb}
 use Rattle.bits.specs.Bytes.{part}
-use Rattle.fixed.specs.Fixed.{fixed, push, push_fixed, pushed, pushed_fixed}
+use Rattle.fixed.specs.Fixed.{put_room, put_full, more_room, more_full, fixed, push, push_fixed, pushed, pushed_append, pushed_fixed}
+use Rattle.fixed.specs.declared.Fixed.{Fixed}
 use Rattle.standard_record.specs.Filler.{blank_timing}
 use Rattle.standard_record.specs.declared.DetailedTiming.{DetailedTiming}
 use Rattle.standard_timing.specs.Timing.{timing_in}
@@ -21,6 +23,33 @@ use Rattle.cta_reading.specs.Lists.{BlocksOf}
 use Rattle.cta_reading.specs.Judged.{BlocksUpTo, start, start_bounds, timing_ends, timings_from}
 use Rattle.cta_reading.proofs.Judged.{head_of, below_128}
 use Rattle.cta_reading.specs.Room.{Few, few, flat_snoc, spaced}
+
+-- ---- one byte after the other, as far as there is room
+
+module _ {A : Type 0} (n : ℕ) where
+  -- a push where there is room
+  pub takes : (l : Fixed A n) (v : A) → l.len < n → push n l v ≡ record { items = set l.items l.len v; len = l.len + 1 }
+  unfolding push
+  takes l v h = λ i. record { items = put_room n l.items l.len v h i; len = more_room n l.len h i }
+
+  -- a full list stays as it is
+  full_stays : (l : Fixed A n) (xs : List A) → n ≤ l.len → pushed (push n) l xs ≡ l
+  unfolding push
+  full_stays l [] h = refl
+  full_stays l (x ∷ xs) h =
+      let same : push n l x ≡ l = (λ i. record { items = put_full n l.items l.len x h i; len = more_full n l.len h i }) in
+      ap (λ l. pushed (push n) l xs) same ∙ full_stays l xs h
+
+  -- where the room ends, the rest is dropped
+  pub rest_dropped : (l l' : Fixed A n) (k : ℕ) (xs : List A) → k ≡ min (length xs) (n - l.len) → l'.len ≡ l.len + k
+      → l' ≡ pushed (push n) l (take k xs) → l' ≡ pushed (push n) l xs
+  rest_dropped l l' k xs m e h =
+      sym (go (drop k xs) refl) ∙ ap (λ l. pushed (push n) l (drop k xs)) h ∙ pushed_append (push n) l (take k xs) (drop k xs)
+      ∙ ap (pushed (push n) l) (take-append-drop k xs)
+    where
+      go : (ys : List A) → drop k xs ≡ ys → pushed (push n) l' ys ≡ l'
+      go [] q = refl
+      go (y ∷ ys) q = full_stays l' (y ∷ ys) (omega (arith, m, e, length-drop k xs, ap length q))
 
 -- ---- data blocks
 

@@ -90,13 +90,16 @@ fn read_timings(s: &[u8], video: VideoDescriptors, blocks: DataBlocks) -> CtaRea
 
 // ---- data blocks
 
-// The bytes of `run` go behind those of `video`.
+// The bytes of `run` go behind those of `video`, as far as there is room.
 fn append(video: &mut VideoDescriptors, run: &[u8])
     ensures { video.new ≡ pushed (push 119) video.old run.now }
 {
-    for i in 0..run.len() {
-        video.push(run[i]);
+    let from = video.len;
+    let many = run.len().min(119usize.saturating_sub(from));
+    for i in 0..many {
+        video.items[from + i] = run[i];
     }
+    video.len = from + many;
 }
 
 fn read_blocks(s: &[u8]) -> CtaReading
